@@ -1,0 +1,4 @@
+pub mod Replica
+pub mod Log
+pub mod ReplicaLaws
+pub mod LogLaws

@@ -1,0 +1,147 @@
+// One replica and its log of records.
+ghost use mathlib.Core.Path.{_≡_};
+ghost use mathlib.Core.Bool.{cond};
+ghost use Prim.Native.Nat.{_≤_};
+ghost use lib.Dec.{ltb};
+ghost use Rattle.replica.specs.Replica.{zeroRecord, zeroReplica, tidyReplica};
+ghost use Rattle.replica.specs.Log.{recordInUse, logInUse, recordsAgree, recordAgrees, logsAgree};
+use parts::Leader;
+
+// A record: its id, and the epoch of the leader that wrote it.
+pub struct Record {
+    pub id: u8,
+    pub epoch: i8,
+}
+
+// A replica. Its log holds end records; what stands behind them is no part of it.
+pub struct Replica {
+    pub hw: u8,
+    pub epoch: i8,
+    pub leader: Leader,
+    pub isr: u8,
+    pub end: u8,
+    pub log: [Record; 16],
+}
+
+impl Record {
+    // The record where its offset x is below the log's end, else zeros.
+    pub fn below(self, x: usize, end: u8) -> Record
+        ensures { λ r. ⌜ r ≡ cond (ltb x end) self zeroRecord ⌝ }
+    {
+        if x < end as usize {
+            self
+        } else {
+            Record { id: 0, epoch: 0 }
+        }
+    }
+
+    // Rule S6 of one record.
+    pub fn is_in_use(self, next_id: u8, next_epoch: u8) -> bool
+        ensures { λ r. ⌜ r ≡ recordInUse «next_id» «next_epoch» self ⌝ }
+    {
+        if self.id < next_id {
+            return parts::epoch_used(next_epoch, self.epoch);
+        }
+        false
+    }
+
+    // Rule S7 of this record at offset x and another at offset y.
+    pub fn agrees(self, x: usize, other: Record, y: usize) -> bool
+        ensures { λ r. ⌜ r ≡ recordsAgree self x other y ⌝ }
+    {
+        if self.id == other.id {
+            if x == y {
+                return parts::same_epoch(self.epoch, other.epoch);
+            }
+            return false;
+        }
+        true
+    }
+
+    // Rule S7 of this record at offset x and every record of a log. The caller shows that the log's end is in its array.
+    pub fn agrees_with_log(self, x: usize, other: Replica) -> bool
+        requires { ⌜ other .end ≤ 16 ⌝ }
+        ensures { λ r. ⌜ r ≡ recordAgrees self x other ⌝ }
+    {
+        let n = other.end as usize;
+        let mut y: usize = 0;
+        while y < n {
+            let q = other.log[y];
+            if self.agrees(x, q, y) {
+                y = y + 1;
+            } else {
+                return false;
+            }
+        }
+        true
+    }
+}
+
+impl Replica {
+    // All zeros.
+    pub fn zero() -> Replica
+        ensures { λ r. ⌜ r ≡ zeroReplica ⌝ }
+    {
+        let log = [Record { id: 0, epoch: 0 }; 16];
+        Replica {
+            hw: 0,
+            epoch: 0,
+            leader: Leader::None,
+            isr: 0,
+            end: 0,
+            log: log,
+        }
+    }
+
+    // The replica with zeros past the end of its log.
+    pub fn tidy(self) -> Replica
+        ensures { λ r. ⌜ r ≡ tidyReplica self ⌝ }
+    {
+        let mut p = self;
+        let end = self.end;
+        let mut x: usize = 0;
+        while x < 16 {
+            let r = self.log[x];
+            let q = r.below(x, end);
+            p.log[x] = q;
+            x = x + 1;
+        }
+        p
+    }
+
+    // Rule S6 of the replica's log. The caller shows that its end is in its array.
+    pub fn log_is_in_use(self, next_id: u8, next_epoch: u8) -> bool
+        requires { ⌜ self .end ≤ 16 ⌝ }
+        ensures { λ r. ⌜ r ≡ logInUse «next_id» «next_epoch» self ⌝ }
+    {
+        let n = self.end as usize;
+        let mut x: usize = 0;
+        while x < n {
+            let r = self.log[x];
+            if r.is_in_use(next_id, next_epoch) {
+                x = x + 1;
+            } else {
+                return false;
+            }
+        }
+        true
+    }
+
+    // Rule S7 of every record of two logs. The caller shows that their ends are in their arrays.
+    pub fn log_agrees(self, other: Replica) -> bool
+        requires { ⌜ (self .end ≤ 16) × (other .end ≤ 16) ⌝ }
+        ensures { λ r. ⌜ r ≡ logsAgree self other ⌝ }
+    {
+        let n = self.end as usize;
+        let mut x: usize = 0;
+        while x < n {
+            let r = self.log[x];
+            if r.agrees_with_log(x, other) {
+                x = x + 1;
+            } else {
+                return false;
+            }
+        }
+        true
+    }
+}
