@@ -1,0 +1,87 @@
+use Prim.Native.Nat.{ℕ, _<_}
+use mathlib.Core.Bool.{cond}
+use mathlib.Core.Path.{_≡_, sym, _∙_, ap}
+use native.Mathlib.Omega.{arith}
+use lib.Dec.{ltb}
+use lib.ListN.{replicate, getD-replicate}
+use borrow.Author.Tests.{not-true, not-false}
+use borrow.Author.Needs.{needs}
+use Rattle.logic.specs.Table.{table, tableFrom, table-cong}
+use Rattle.parts.specs.declared.Leader.the-variants.{None}
+use Rattle.parts.specs.Epoch.{noEpoch}
+use Rattle.parts.specs.Isr.{fullIsr}
+use Rattle.replica.specs.declared.Replica.{Replica}
+use Rattle.replica.specs.Replica.{replicaOf, zeroReplica, noReplica, tidyReplica}
+use Rattle.cluster.specs.State.{replicaCount, nextLeaderEpoch, nextRecordId, stateOf, withReplicas, tidyReplicaAt, zeroState}
+use Rattle.cluster.specs.RuleLaws.{ranges-of}
+use Rattle.cluster.specs.declared.State.{State}
+use Rattle.cluster.specs.declared.Limits.{Limits}
+use Rattle.cluster.specs.Fresh.{answer, freshReplica, freshReplicaAt, freshState, fresh}
+use Rattle.cluster.proofs.State.fresh.Statement.{statement}
+use Rattle.cluster.proofs.State.fresh.Tie as tie
+
+-- the state that the code tidies: a fresh replica at every place, made of a replica p and the rest of a state z
+abbrev all : Limits → State → Replica → ℕ → State
+all limits z p isr =
+    stateOf limits (nextLeaderEpoch z) (nextRecordId z) (record { epoch = noEpoch; leader = None; isr = isr }) (z .requests)
+    (replicate 5 (replicaOf (p .hw) noEpoch (p .leader) (p .isr) (p .end) (p .log)))
+
+abbrev tidied : State → State
+tidied s = withReplicas s (table 5 (tidyReplicaAt s))
+
+fresh-at : (c : Limits) (i : ℕ) → i < 5 → tidyReplicaAt (all c zeroState zeroReplica (fullIsr (replicaCount c))) i ≡ freshReplicaAt c i
+unfolding tidyReplica table tableFrom
+fresh-at c i h = ap (λ (p : Replica). cond (ltb i (replicaCount c)) (tidyReplica p) zeroReplica) (getD-replicate 5 i freshReplica noReplica h)
+
+all-tidied : (c : Limits) → tidied (all c zeroState zeroReplica (fullIsr (replicaCount c))) ≡ freshState c
+unfolding freshState
+all-tidied c =
+    ap (withReplicas (all c zeroState zeroReplica (fullIsr (replicaCount c))))
+    (table-cong 5 (tidyReplicaAt (all c zeroState zeroReplica (fullIsr (replicaCount c)))) (freshReplicaAt c) (fresh-at c))
+
+zero-requires : tie.Need-zero-requires
+zero-requires c κs = search needs
+
+limits-in-range-requires : tie.Need-limits-in-range-requires
+limits-in-range-requires c κs = search needs
+
+returns : tie.Need-returns
+unfolding fresh
+returns c =
+    rw (sym (c .before .limits-in-range .ensures) ∙ not-true _ (c .if1 .taken))
+    (ap (answer 22) (c .before .before .zero .ensures))
+
+full-isr-requires : tie.Need-full-isr-requires
+full-isr-requires c κs =
+    let h = ranges-of (c .before .before .before .args .limits) (sym (c .before .limits-in-range .ensures) ∙ not-false _ (c .if1 .left)) in
+    omega (arith, h .replicas)
+
+zero-requires-2 : tie.Need-zero-requires-2
+zero-requires-2 c κs = search needs
+
+tidy-replicas-requires : tie.Need-tidy-replicas-requires
+tidy-replicas-requires c κs = search needs
+
+returns-2 : tie.Need-returns-2
+unfolding fresh
+returns-2 c =
+    let limits = c .before .before .before .before .before .before .args .limits in
+    rw (sym (c .before .before .before .before .limits-in-range .ensures) ∙ not-false _ (c .before .before .before .if1 .left))
+    (ap (answer 0)
+    (c .tidy-replicas .ensures
+    ∙ ap (λ (z : State). tidied (all limits z (c .before .zero2 .result) (c .before .before .full-isr .result))) (c .before .before .before .before .before .zero .ensures)
+    ∙ ap (λ (p : Replica). tidied (all limits zeroState p (c .before .before .full-isr .result))) (c .before .zero2 .ensures)
+    ∙ ap (λ (m : ℕ). tidied (all limits zeroState zeroReplica m)) (c .before .before .full-isr .ensures)
+    ∙ all-tidied limits))
+
+pub fresh-spec : {M : Type 1} → statement M
+fresh-spec =
+    tie.close
+    (tie.spec
+    zero-requires
+    limits-in-range-requires
+    returns
+    full-isr-requires
+    zero-requires-2
+    tidy-replicas-requires
+    returns-2)

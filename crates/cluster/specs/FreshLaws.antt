@@ -1,0 +1,134 @@
+-- The fresh state of every accepted configuration meets S1 to S7 and is tidy. Assumes nothing.
+use Prim.Native.Nat.{ℕ, _+_, _-_, _<_}
+use mathlib.Core.Path.{_≡_, refl, _∙_, ap}
+use mathlib.Core.Bool.{Bool, true, false, cond}
+use native.Mathlib.Omega.{arith}
+use lib.Dec.{ltb}
+use borrow.Author.Tests.{le-leb, lt-ltb, eq-eqb}
+use Rattle.logic.specs.Tests.{allBelow, all-by, all-none, every, every-none, every-and, and-true}
+use Rattle.logic.specs.Table.{table, tableFrom, getD-table, used-cong, cond-true}
+use Rattle.parts.specs.Refusal.{accepted, badConfiguration}
+use Rattle.parts.specs.Isr.{fullIsr}
+use Rattle.parts.specs.IsrLaws.{none-below, full-below}
+use Rattle.parts.specs.Epoch.{sameEpoch, lastEpoch}
+use Rattle.parts.specs.Leader.{names, sameLeader, leaderBelow, leaderInIsr}
+use Rattle.replica.specs.declared.Replica.{Replica}
+use Rattle.replica.specs.Replica.{zeroReplica, noReplica, tidyReplica}
+use Rattle.replica.specs.Log.{logInUse, logsAgree}
+use Rattle.cluster.specs.declared.Limits.{Limits}
+use Rattle.cluster.specs.State.{replicaCount, logSize, maxRecords, maxLeaderEpoch, replicaAt, withReplicas, tidy, zeroState}
+use Rattle.cluster.specs.Rules.{inRange, rule1, leaderAndIsrInRange, replicaInRange, rule2, quorumMatchesRequest, rule3, rule4, replicaMatchesRequest, replicaMeetsS5, rule5, rule6, agreesWithAll, rule7, rules}
+use Rattle.cluster.specs.RuleLaws.{Ranges, ranges-of}
+use Rattle.cluster.specs.Fresh.{freshReplica, freshReplicaAt, freshQuorum, freshState, answer, fresh}
+
+-- a replica of the fresh state is fresh
+pub fresh-replica : (c : Limits) (i : ℕ) → i < 5 → i < replicaCount c → replicaAt (freshState c) i ≡ freshReplica
+unfolding freshState
+fresh-replica c i h l =
+    getD-table 5 (freshReplicaAt c) i noReplica h ∙ cond-true (ltb i (replicaCount c)) freshReplica zeroReplica (lt-ltb i (replicaCount c) l)
+
+tidy-fresh-replica : tidyReplica freshReplica ≡ freshReplica
+unfolding tidyReplica table tableFrom
+tidy-fresh-replica = refl
+
+-- the fresh state has zeros in its unused room
+pub fresh-tidy : (c : Limits) → tidy (freshState c) ≡ freshState c
+unfolding tidy freshState table tableFrom
+fresh-tidy c =
+    ap (withReplicas (freshState c))
+    (used-cong 5 (replicaCount c) (λ i. tidyReplica (replicaAt (freshState c) i)) (λ i. freshReplica) zeroReplica
+    (λ i h l. ap tidyReplica (fresh-replica c i h l) ∙ tidy-fresh-replica))
+
+module _ (c : Limits) (ok : inRange c ≡ true) where
+  ranges : Ranges c
+  ranges = ranges-of c ok
+
+  -- what holds of the fresh replica holds of each
+  each-fresh : (test : Replica → ℕ → Bool) → ((i : ℕ) → test freshReplica i ≡ true)
+      → allBelow (replicaCount c) (λ i. test (replicaAt (freshState c) i) i) ≡ true
+  each-fresh test h =
+      all-by (replicaCount c) (λ i. test (replicaAt (freshState c) i) i)
+      (λ i l. rw (fresh-replica c i (omega (arith, ranges .replicas)) l) (h i))
+
+  fresh1 : rule1 c 0 0 ≡ true
+  unfolding rule1
+  fresh1 =
+      every-and _ _ ok
+      (every-and _ _ (le-leb 0 (maxLeaderEpoch c + 1) (omega arith))
+      (every-and _ _ (le-leb 0 (maxRecords c) (omega arith)) every-none))
+
+  in-range : (i : ℕ) → replicaInRange c freshReplica ≡ true
+  unfolding replicaInRange leaderAndIsrInRange leaderBelow
+  in-range i = and-true (le-leb 0 (logSize c) (omega arith)) (none-below (replicaCount c) (ranges .replicas))
+
+  fresh2 : rule2 c 0 (freshQuorum c) (freshState c .requests) (freshState c .replicas) ≡ true
+  unfolding rule2 leaderAndIsrInRange leaderBelow
+  fresh2 =
+      every-and _ _ (full-below (replicaCount c) (ranges .replicas))
+      (every-and _ _ (all-none _)
+      (every-and _ _ (each-fresh (λ p i. replicaInRange c p) in-range) every-none))
+
+  fresh3 : rule3 (replicaCount c) 0 (freshQuorum c) (freshState c .requests) ≡ true
+  unfolding rule3 sameEpoch lastEpoch quorumMatchesRequest sameLeader
+  fresh3 = eq-eqb (fullIsr (replicaCount c)) (fullIsr (replicaCount c)) refl
+
+  fresh4 : rule4 0 (freshQuorum c) (freshState c .requests) ≡ true
+  unfolding rule4 leaderInIsr allBelow
+  fresh4 = refl
+
+  holds : (i : ℕ) → replicaMeetsS5 0 (freshState c .requests) freshReplica i ≡ true
+  unfolding replicaMeetsS5 replicaMatchesRequest sameLeader names every
+  holds i = refl
+
+  fresh5 : rule5 (replicaCount c) 0 (freshState c .requests) (freshState c .replicas) ≡ true
+  unfolding rule5
+  fresh5 = each-fresh (replicaMeetsS5 0 (freshState c .requests)) holds
+
+  fresh6 : rule6 (replicaCount c) 0 0 (freshState c .replicas) ≡ true
+  unfolding rule6 logInUse allBelow
+  fresh6 = each-fresh (λ p i. logInUse 0 0 p) (λ i. refl)
+
+  fresh7 : rule7 (replicaCount c) (freshState c .replicas) ≡ true
+  unfolding rule7 agreesWithAll logsAgree allBelow
+  fresh7 =
+      each-fresh (λ p i. agreesWithAll (replicaCount c) (freshState c .replicas) p)
+      (λ i. each-fresh (λ q j. logsAgree freshReplica q) (λ j. refl))
+
+  -- the fresh state meets S1 to S7
+  pub fresh-rules : rules (freshState c) ≡ true
+  unfolding rules freshState
+  fresh-rules =
+      every-and _ _ fresh1
+      (every-and _ _ fresh2
+      (every-and _ _ fresh3
+      (every-and _ _ fresh4
+      (every-and _ _ fresh5
+      (every-and _ _ fresh6
+      (every-and _ _ fresh7 every-none))))))
+
+-- ---- what starting from a configuration answers
+pub zero-tidy : tidy zeroState ≡ zeroState
+unfolding tidy table tableFrom tidyReplica
+zero-tidy = refl
+
+-- the state that goes with the answer is tidy, for every configuration
+pub fresh-answer-tidy : (c : Limits) → tidy (fresh c .state) ≡ fresh c .state
+unfolding fresh
+fresh-answer-tidy c = go (inRange c)
+  where
+    go : (b : Bool)
+        → tidy (cond b (answer accepted (freshState c)) (answer badConfiguration zeroState) .state)
+        ≡ cond b (answer accepted (freshState c)) (answer badConfiguration zeroState) .state
+    go true = fresh-tidy c
+    go false = zero-tidy
+
+-- and meets S1 to S7 wherever the answer is 0
+pub fresh-answer-rules : (c : Limits) → fresh c .refusal ≡ accepted → rules (fresh c .state) ≡ true
+unfolding fresh
+fresh-answer-rules c = go (inRange c) refl
+  where
+    go : (b : Bool) → inRange c ≡ b
+        → cond b (answer accepted (freshState c)) (answer badConfiguration zeroState) .refusal ≡ accepted
+        → rules (cond b (answer accepted (freshState c)) (answer badConfiguration zeroState) .state) ≡ true
+    go true e h = fresh-rules c e
+    go false e h = absurd (omega arith)

@@ -1,0 +1,9 @@
+pub mod State
+pub mod Rules
+pub mod Fresh
+pub mod RuleLaws
+pub mod Equality
+pub mod FreshLaws
+pub mod Predicates
+pub mod Unused
+pub mod Shape

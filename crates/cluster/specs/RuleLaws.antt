@@ -1,0 +1,143 @@
+-- What the tests of the rules say, case by case. Assumes nothing.
+use Prim.Native.Nat.{ℕ, zero, suc, _+_, _-_, _≤_}
+use mathlib.Core.Path.{ap, _≡_, refl, sym, _∙_}
+use mathlib.Core.Bool.{Bool, true, false, _&&_, cond}
+use mathlib.Core.List.{List}
+use mathlib.Core.Logic.{_↔_}
+use native.Mathlib.Omega.{arith}
+use lib.Dec.{eqb, leb, eqb·suc-zero}
+use lib.IntN.{ℤ, pos, negsuc}
+use borrow.Author.Tests.{leb-true}
+use Rattle.logic.specs.Tests.{all-at, every-at, failing-zero, and-left, and-right, true-false}
+use Rattle.parts.specs.declared.Leader.{Leader}
+use Rattle.parts.specs.declared.Leader.the-variants.{None}
+use Rattle.parts.specs.Refusal.{accepted, brokenState}
+use Rattle.parts.specs.Isr.{fullIsr}
+use Rattle.parts.specs.Epoch.{noEpoch, sameEpoch, epochUsed, requestPlace}
+use Rattle.parts.specs.Leader.{sameLeader}
+use Rattle.replica.specs.declared.Replica.{Replica}
+use Rattle.cluster.specs.declared.Limits.{Limits}
+use Rattle.cluster.specs.declared.Quorum.{Quorum}
+use Rattle.cluster.specs.declared.Request.{Request}
+use Rattle.cluster.specs.declared.State.{State}
+use Rattle.cluster.specs.State.{replicaCount, logSize, maxRecords, maxLeaderEpoch, nextLeaderEpoch, nextRecordId, requestIn, replicaIn}
+use Rattle.cluster.specs.Rules.{between, limitTests, inRange, rule1Tests, rule1, replicaInRange, replicaInRangeAt, leaderAndIsrInRange, rule2Tests, rule2, quorumMatchesRequest, replicaMatchesRequest, ruleTests, rules, brokenRule, stateRefusal, Bounded, LogsBounded}
+
+-- ---- S1
+pub between-low : (low high n : ℕ) → between low high n ≡ true → low ≤ n
+unfolding between
+between-low low high n h = leb-true low n (and-left (leb low n) (leb n high) h)
+
+pub between-high : (low high n : ℕ) → between low high n ≡ true → n ≤ high
+unfolding between
+between-high low high n h = leb-true n high (and-right (leb low n) (leb n high) h)
+
+-- the ranges of a configuration
+pub record Ranges (c : Limits) : Type 0 where
+  pub replicas-low : 1 ≤ replicaCount c
+  pub replicas : replicaCount c ≤ 5
+  pub log-low : 1 ≤ logSize c
+  pub log : logSize c ≤ 16
+  pub records-low : 1 ≤ maxRecords c
+  pub records : maxRecords c ≤ 64
+  pub epochs : maxLeaderEpoch c ≤ 15
+
+pub ranges-of : (c : Limits) → inRange c ≡ true → Ranges c
+unfolding inRange
+ranges-of c h =
+    let p = every-at (limitTests c) h in
+    record {
+      replicas-low = between-low 1 5 (replicaCount c) (p 0);
+      replicas = between-high 1 5 (replicaCount c) (p 0);
+      log-low = between-low 1 16 (logSize c) (p 1);
+      log = between-high 1 16 (logSize c) (p 1);
+      records-low = between-low 1 64 (maxRecords c) (p 2);
+      records = between-high 1 64 (maxRecords c) (p 2);
+      epochs = leb-true (maxLeaderEpoch c) 15 (p 3);
+    }
+
+-- what S1 says
+pub record Sizes (c : Limits) (nextEpoch nextId : ℕ) : Type 0 where
+  pub ranges : Ranges c
+  pub epochs : nextEpoch ≤ maxLeaderEpoch c + 1
+  pub ids : nextId ≤ maxRecords c
+
+pub sizes-of : (c : Limits) (nextEpoch nextId : ℕ) → rule1 c nextEpoch nextId ≡ true → Sizes c nextEpoch nextId
+unfolding rule1
+sizes-of c nextEpoch nextId h =
+    let p = every-at (rule1Tests c nextEpoch nextId) h in
+    record {
+      ranges = ranges-of c (p 0);
+      epochs = leb-true nextEpoch (maxLeaderEpoch c + 1) (p 1);
+      ids = leb-true nextId (maxRecords c) (p 2);
+    }
+
+pub bounded-of : (s : State) → rule1 (s .limits) (nextLeaderEpoch s) (nextRecordId s) ≡ true → Bounded s
+bounded-of s h =
+    let z = sizes-of (s .limits) (nextLeaderEpoch s) (nextRecordId s) h in
+    record { replicas = z .ranges .replicas; requests = omega (arith, z .epochs, z .ranges .epochs) }
+
+-- ---- S2
+pub end-in-range : (c : Limits) (p : Replica) → replicaInRange c p ≡ true → p .end ≤ logSize c
+unfolding replicaInRange
+end-in-range c p h = leb-true (p .end) (logSize c) (and-left (leb (p .end) (logSize c)) (leaderAndIsrInRange (replicaCount c) (p .leader) (p .isr)) h)
+
+pub logs-bounded-of : (s : State)
+    → rule1 (s .limits) (nextLeaderEpoch s) (nextRecordId s) ≡ true
+    → rule2 (s .limits) (nextLeaderEpoch s) (s .quorum) (s .requests) (s .replicas) ≡ true → LogsBounded s
+unfolding rule2
+logs-bounded-of s h k i l =
+    let z = sizes-of (s .limits) (nextLeaderEpoch s) (nextRecordId s) h in
+    let p = every-at (rule2Tests (s .limits) (nextLeaderEpoch s) (s .quorum) (s .requests) (s .replicas)) k 2 in
+    let e = end-in-range (s .limits) (replicaIn (s .replicas) i) (all-at _ (replicaInRangeAt (s .limits) (s .replicas)) p i l) in
+    omega (arith, e, z .ranges .log)
+
+-- ---- S3: at the start, and after a request
+module _ (n : ℕ) (q : Quorum) (requests : List Request) where
+  pub quorum-start : (next : ℕ) → next ≡ 0 → sameLeader (q .leader) None && eqb (q .isr) (fullIsr n) ≡ quorumMatchesRequest n q requests next
+  unfolding quorumMatchesRequest
+  quorum-start next h = rw h
+
+  pub quorum-later : (next : ℕ) → (next ≡ 0 → ⊥) → sameLeader (q .leader) (requestIn requests (next - 1) .leader) ≡ quorumMatchesRequest n q requests next
+  unfolding quorumMatchesRequest
+  quorum-later zero h = absurd (h refl)
+  quorum-later (suc last) h = let e : suc last - 1 ≡ last = omega arith in rw e
+
+-- ---- S5: with no epoch, at an epoch used, and at any other
+module _ (next : ℕ) (requests : List Request) (leader : Leader) (isr : ℕ) where
+  pub matches-none : (z : ℤ) → sameEpoch z noEpoch ≡ true
+      → sameLeader leader None && eqb isr 0 ≡ replicaMatchesRequest next requests z leader isr
+  unfolding sameEpoch replicaMatchesRequest
+  matches-none (pos e) h = absurd (true-false (sym h))
+  matches-none (negsuc zero) h = refl
+  matches-none (negsuc (suc k)) h = absurd (true-false (sym h ∙ eqb·suc-zero k))
+
+  pub matches-used : (z : ℤ) → epochUsed next z ≡ true
+      → sameLeader leader (requestIn requests (requestPlace z) .leader) ≡ replicaMatchesRequest next requests z leader isr
+  unfolding epochUsed requestPlace replicaMatchesRequest
+  matches-used (pos e) h = ap (λ b. b && sameLeader leader (requestIn requests e .leader)) (sym h)
+  matches-used (negsuc k) h = absurd (true-false (sym h))
+
+  pub matches-other : (z : ℤ) → sameEpoch z noEpoch ≡ false → epochUsed next z ≡ false → false ≡ replicaMatchesRequest next requests z leader isr
+  unfolding sameEpoch epochUsed replicaMatchesRequest
+  matches-other (pos e) h k = ap (λ b. b && sameLeader leader (requestIn requests e .leader)) (sym k)
+  matches-other (negsuc zero) h k = absurd (true-false h)
+  matches-other (negsuc (suc n)) h k = refl
+
+-- ---- the seven together
+-- no rule is broken exactly where the state meets them all
+pub broken-none : (s : State) → brokenRule s ≡ 0 ↔ rules s ≡ true
+unfolding brokenRule rules
+broken-none s = failing-zero 0 (ruleTests s)
+
+pub refusal-none : (s : State) → brokenRule s ≡ 0 → accepted ≡ stateRefusal s
+unfolding stateRefusal
+refusal-none s h = rw (broken-none s .0 h)
+
+pub refusal-some : (s : State) → (brokenRule s ≡ 0 → ⊥) → brokenState ≡ stateRefusal s
+unfolding stateRefusal
+refusal-some s h = go (rules s) refl
+  where
+    go : (b : Bool) → rules s ≡ b → brokenState ≡ cond b accepted brokenState
+    go true e = absurd (h (broken-none s .1 e))
+    go false e = refl

@@ -1,0 +1,113 @@
+-- The state of one partition, its equality, and its tidy form.
+-- "Unused room (past a log's end, past R, requests not sent) is no part of a state: equality ignores it, and every state
+-- that is worked out or read has zeros there." Assumes nothing.
+use Prim.Native.Nat.{ℕ, _<_}
+use mathlib.Core.Path.{_≡_}
+use mathlib.Core.Bool.{cond}
+use mathlib.Core.List.{List}
+use lib.Dec.{ltb}
+use lib.IntN.{pos}
+use lib.ListN.{getD, replicate}
+use Rattle.logic.specs.Table.{table}
+use Rattle.parts.specs.declared.Leader.the-variants.{None}
+use Rattle.replica.specs.declared.Replica.{Replica}
+use Rattle.replica.specs.Replica.{zeroReplica, noReplica, tidyReplica, SameReplica}
+use Rattle.cluster.specs.declared.Limits.{Limits}
+use Rattle.cluster.specs.declared.Quorum.{Quorum}
+use Rattle.cluster.specs.declared.Request.{Request}
+use Rattle.cluster.specs.declared.State.{State}
+
+-- ---- the fields, by the source's names
+-- R: replicas are named 0 to R-1 (Replicas)
+abbrev pub replicaCount : Limits → ℕ
+replicaCount c = c .«replica_count»
+
+-- L: offsets are 0 to L-1 (LogSize)
+abbrev pub logSize : Limits → ℕ
+logSize c = c .«log_size»
+
+-- M: record ids are 0 to M-1 (MaxRecords)
+abbrev pub maxRecords : Limits → ℕ
+maxRecords c = c .«max_records»
+
+-- X: leader epochs are 0 to X (MaxLeaderEpoch)
+abbrev pub maxLeaderEpoch : Limits → ℕ
+maxLeaderEpoch c = c .«max_leader_epoch»
+
+-- the next epoch: so many epochs are used, and so many requests sent
+abbrev pub nextLeaderEpoch : State → ℕ
+nextLeaderEpoch s = s .«next_leader_epoch»
+
+-- the next record id
+abbrev pub nextRecordId : State → ℕ
+nextRecordId s = s .«next_record_id»
+
+-- ---- what stands in a place of an array
+abbrev pub zeroRequest : Request
+zeroRequest = record { leader = None; isr = 0 }
+
+abbrev pub requestIn : List Request → ℕ → Request
+requestIn requests e = getD requests e zeroRequest
+
+abbrev pub replicaIn : List Replica → ℕ → Replica
+replicaIn replicas i = getD replicas i noReplica
+
+-- the request of epoch e
+abbrev pub requestAt : State → ℕ → Request
+requestAt s e = requestIn (s .requests) e
+
+-- the replica named i
+abbrev pub replicaAt : State → ℕ → Replica
+replicaAt s i = replicaIn (s .replicas) i
+
+-- ---- the state of these fields, and the state with another array of requests, or of replicas
+abbrev pub stateOf : Limits → ℕ → ℕ → Quorum → List Request → List Replica → State
+stateOf limits nextEpoch nextId quorum requests replicas =
+    record {
+      limits = limits;
+      «next_leader_epoch» = nextEpoch;
+      «next_record_id» = nextId;
+      quorum = quorum;
+      requests = requests;
+      replicas = replicas;
+    }
+
+abbrev pub withRequests : State → List Request → State
+withRequests s l = stateOf (s .limits) (nextLeaderEpoch s) (nextRecordId s) (s .quorum) l (s .replicas)
+
+abbrev pub withReplicas : State → List Replica → State
+withReplicas s l = stateOf (s .limits) (nextLeaderEpoch s) (nextRecordId s) (s .quorum) (s .requests) l
+
+-- ---- equality of states
+-- two states are equal: all that they hold is, and nothing in unused room counts. There are 16 places for requests and 5
+-- for replicas; a place past them is no part of a state, whatever next epoch or R a broken state claims.
+pub record Same (s t : State) : Type 0 where
+  pub limits : s .limits ≡ t .limits
+  pub nextEpoch : nextLeaderEpoch s ≡ nextLeaderEpoch t
+  pub nextId : nextRecordId s ≡ nextRecordId t
+  pub quorum : s .quorum ≡ t .quorum
+  pub requests : (e : ℕ) → e < 16 → e < nextLeaderEpoch s → requestAt s e ≡ requestAt t e
+  pub replicas : (i : ℕ) → i < 5 → i < replicaCount (s .limits) → SameReplica (replicaAt s i) (replicaAt t i)
+
+-- ---- tidy
+-- the request of epoch e, or zeros where it was not sent
+abbrev pub tidyRequestAt : State → ℕ → Request
+tidyRequestAt s e = cond (ltb e (nextLeaderEpoch s)) (requestAt s e) zeroRequest
+
+-- the replica named i with zeros past the end of its log, or zeros where no replica is named i
+abbrev pub tidyReplicaAt : State → ℕ → Replica
+tidyReplicaAt s i = cond (ltb i (replicaCount (s .limits))) (tidyReplica (replicaAt s i)) zeroReplica
+
+-- the state with zeros in its unused room
+unfoldable pub tidy : State → State
+tidy s = withReplicas (withRequests s (table 16 (tidyRequestAt s))) (table 5 (tidyReplicaAt s))
+
+-- ---- the all-zero state: R is 0 and the quorum epoch 0
+abbrev pub zeroLimits : Limits
+zeroLimits = record { «replica_count» = 0; «log_size» = 0; «max_records» = 0; «max_leader_epoch» = 0 }
+
+abbrev pub zeroQuorum : Quorum
+zeroQuorum = record { epoch = pos 0; leader = None; isr = 0 }
+
+abbrev pub zeroState : State
+zeroState = stateOf zeroLimits 0 0 zeroQuorum (replicate 16 zeroRequest) (replicate 5 zeroReplica)

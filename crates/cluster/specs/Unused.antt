@@ -1,0 +1,180 @@
+-- The rules look at no unused room: equal states break the same rule first. Assumes nothing.
+use Prim.Native.Nat.{ℕ, zero, suc, _≤_, _<_}
+use mathlib.Core.Path.{_≡_, refl, sym, _∙_, ap, ap₂}
+use mathlib.Core.Bool.{true, not, _&&_, _||_}
+use mathlib.Core.List.{List}
+use native.Mathlib.Omega.{arith}
+use native.Mathlib.Decide.{decLt}
+use lib.Dec.{ltb, leb}
+use lib.IntN.{ℤ, pos, negsuc}
+use lib.ListN.{drop}
+use borrow.Author.Tests.{le-ltb}
+use Rattle.logic.specs.Tests.{allBelow, all-cong, every-cong, firstFailing, failing-cong, bool-ext}
+use Rattle.parts.specs.declared.Leader.{Leader}
+use Rattle.parts.specs.Isr.{member}
+use Rattle.parts.specs.Leader.{names, sameLeader, leaderInIsr}
+use Rattle.replica.specs.declared.Record.{Record}
+use Rattle.replica.specs.declared.Replica.{Replica}
+use Rattle.replica.specs.Replica.{recordAt, SameReplica}
+use Rattle.replica.specs.Log.{recordInUse, recordInUseAt, logInUse, recordsAgree, recordAgreesAt, recordAgrees, logAgreesAt, logsAgree}
+use Rattle.cluster.specs.declared.Limits.{Limits}
+use Rattle.cluster.specs.declared.Quorum.{Quorum}
+use Rattle.cluster.specs.declared.Request.{Request}
+use Rattle.cluster.specs.declared.State.{State}
+use Rattle.cluster.specs.State.{replicaCount, logSize, nextLeaderEpoch, nextRecordId, requestIn, replicaIn, stateOf, Same, tidy}
+use Rattle.cluster.specs.Rules.{leaderAndIsrInRange, replicaInRange, replicaInRangeAt, requestInRangeAt, rule1, rule2, quorumMatchesRequest, rule3, requestLeaderInIsr, rule4, replicaMatchesRequest, replicaMeetsS5, replicaMeetsS5At, rule5, logInUseAt, rule6, agreesWithAt, agreesWithAll, agreesAt, rule7, ruleTests, rules, brokenRule}
+use Rattle.cluster.specs.RuleLaws.{bounded-of, logs-bounded-of, broken-none}
+use Rattle.cluster.specs.Equality.{state-path, tidy-same}
+
+-- ---- logs of equal replicas
+module _ (p q : Replica) (m : SameReplica p q) (h : p .end ≤ 16) where
+  same-record : (x : ℕ) → x < p .end → recordAt p x ≡ recordAt q x
+  same-record x l = m .log x (omega arith) l
+
+  log-in-use-same : (nextId nextEpoch : ℕ) → logInUse nextId nextEpoch p ≡ logInUse nextId nextEpoch q
+  unfolding logInUse
+  log-in-use-same nextId nextEpoch =
+      all-cong (p .end) (recordInUseAt nextId nextEpoch p) (recordInUseAt nextId nextEpoch q) (λ x l. ap (recordInUse nextId nextEpoch) (same-record x l))
+      ∙ ap (λ (n : ℕ). allBelow n (recordInUseAt nextId nextEpoch q)) (m .end)
+
+  record-agrees-same : (r : Record) (x : ℕ) → recordAgrees r x p ≡ recordAgrees r x q
+  unfolding recordAgrees
+  record-agrees-same r x =
+      all-cong (p .end) (recordAgreesAt r x p) (recordAgreesAt r x q) (λ y l. ap (λ (v : Record). recordsAgree r x v y) (same-record y l))
+      ∙ ap (λ (n : ℕ). allBelow n (recordAgreesAt r x q)) (m .end)
+
+  log-agrees-same : (u : Replica) → logsAgree p u ≡ logsAgree q u
+  unfolding logsAgree
+  log-agrees-same u =
+      all-cong (p .end) (logAgreesAt p u) (logAgreesAt q u) (λ x l. ap (λ (v : Record). recordAgrees v x u) (same-record x l))
+      ∙ ap (λ (n : ℕ). allBelow n (logAgreesAt q u)) (m .end)
+
+  agrees-log-same : (u : Replica) → logsAgree u p ≡ logsAgree u q
+  unfolding logsAgree
+  agrees-log-same u = all-cong (u .end) (logAgreesAt u p) (logAgreesAt u q) (λ x l. record-agrees-same (recordAt u x) x)
+
+-- ---- each rule, of requests and replicas that are equal where they are in use
+module _ (c : Limits) (next : ℕ) (quorum : Quorum) (rs us : List Request) (ps qs : List Replica)
+    (requests : (e : ℕ) → e < next → requestIn rs e ≡ requestIn us e)
+    (replicas : (i : ℕ) → i < replicaCount c → SameReplica (replicaIn ps i) (replicaIn qs i)) where
+  rule2-same : rule2 c next quorum rs ps ≡ rule2 c next quorum us qs
+  unfolding rule2 replicaInRange
+  rule2-same =
+      every-cong _ _ _ _ refl
+      (every-cong _ _ _ _
+      (all-cong next (requestInRangeAt (replicaCount c) rs) (requestInRangeAt (replicaCount c) us) (λ e l. ap (λ (q : Request). leaderAndIsrInRange (replicaCount c) (q .leader) (q .isr)) (requests e l)))
+      (every-cong _ _ _ _
+      (all-cong (replicaCount c) (replicaInRangeAt c ps) (replicaInRangeAt c qs)
+      (λ i l.
+      let m = replicas i l in
+      ap₂ _&&_ (ap (λ (n : ℕ). leb n (logSize c)) (m .end)) (ap₂ (λ (v : Leader) (n : ℕ). leaderAndIsrInRange (replicaCount c) v n) (m .leader) (m .isr))))
+      refl))
+
+  matches-last : (n : ℕ) → n ≤ next → quorumMatchesRequest (replicaCount c) quorum rs n ≡ quorumMatchesRequest (replicaCount c) quorum us n
+  unfolding quorumMatchesRequest
+  matches-last zero h = refl
+  matches-last (suc last) h = ap (λ (q : Request). sameLeader (quorum .leader) (q .leader)) (requests last (omega arith))
+
+  rule3-same : rule3 (replicaCount c) next quorum rs ≡ rule3 (replicaCount c) next quorum us
+  unfolding rule3
+  rule3-same = rw (matches-last next (omega arith))
+
+  rule4-same : rule4 next quorum rs ≡ rule4 next quorum us
+  unfolding rule4
+  rule4-same =
+      ap (λ b. leaderInIsr (quorum .isr) (quorum .leader) && b)
+      (all-cong next (requestLeaderInIsr rs) (requestLeaderInIsr us) (λ e l. ap (λ (q : Request). leaderInIsr (q .isr) (q .leader)) (requests e l)))
+
+  matches-same : (z : ℤ) (l : Leader) (isr : ℕ) → replicaMatchesRequest next rs z l isr ≡ replicaMatchesRequest next us z l isr
+  unfolding replicaMatchesRequest
+  matches-same (pos e) l isr =
+      elim (decLt e next) [
+        | yes h ↦ ap (λ (q : Request). ltb e next && sameLeader l (q .leader)) (requests e h)
+        | no h ↦ rw (le-ltb e next (omega arith))
+      ]
+  matches-same (negsuc zero) l isr = refl
+  matches-same (negsuc (suc k)) l isr = refl
+
+  meets-s5-same : (p q : Replica) (i : ℕ) → SameReplica p q → replicaMeetsS5 next rs p i ≡ replicaMeetsS5 next us q i
+  unfolding replicaMeetsS5
+  meets-s5-same p q i m =
+      every-cong _ _ _ _
+      (matches-same (p .epoch) (p .leader) (p .isr)
+      ∙ ap (λ (z : ℤ). replicaMatchesRequest next us z (p .leader) (p .isr)) (m .epoch)
+      ∙ ap₂ (λ (v : Leader) (n : ℕ). replicaMatchesRequest next us (q .epoch) v n) (m .leader) (m .isr))
+      (every-cong _ _ _ _ (ap₂ (λ (v : Leader) (n : ℕ). not (names v i) || member n i) (m .leader) (m .isr))
+      (every-cong _ _ _ _ (ap₂ leb (m .hw) (m .end)) refl))
+
+  rule5-same : rule5 (replicaCount c) next rs ps ≡ rule5 (replicaCount c) next us qs
+  unfolding rule5
+  rule5-same =
+      all-cong (replicaCount c) (replicaMeetsS5At next rs ps) (replicaMeetsS5At next us qs) (λ i l. meets-s5-same (replicaIn ps i) (replicaIn qs i) i (replicas i l))
+
+  module _ (ends : (i : ℕ) → i < replicaCount c → replicaIn ps i .end ≤ 16) where
+    rule6-same : (nextId : ℕ) → rule6 (replicaCount c) nextId next ps ≡ rule6 (replicaCount c) nextId next qs
+    unfolding rule6
+    rule6-same nextId =
+        all-cong (replicaCount c) (logInUseAt nextId next ps) (logInUseAt nextId next qs)
+        (λ i l. log-in-use-same (replicaIn ps i) (replicaIn qs i) (replicas i l) (ends i l) nextId next)
+
+    rule7-same : rule7 (replicaCount c) ps ≡ rule7 (replicaCount c) qs
+    unfolding rule7 agreesWithAll
+    rule7-same =
+        all-cong (replicaCount c) (agreesAt (replicaCount c) ps) (agreesAt (replicaCount c) qs)
+        (λ i l.
+        all-cong (replicaCount c) (agreesWithAt ps (replicaIn ps i)) (agreesWithAt qs (replicaIn qs i))
+        (λ j k.
+        log-agrees-same (replicaIn ps i) (replicaIn qs i) (replicas i l) (ends i l) (replicaIn ps j)
+        ∙ agrees-log-same (replicaIn ps j) (replicaIn qs j) (replicas j k) (ends j k) (replicaIn qs i)))
+
+-- ---- the seven together
+module _ (s t : State) (m : Same s t) where
+  -- t with the limits, the counts and the quorum of s, which are its own
+  other : State
+  other = stateOf (s .limits) (nextLeaderEpoch s) (nextRecordId s) (s .quorum) (t .requests) (t .replicas)
+
+  other-is : other ≡ t
+  unfolding other
+  other-is = state-path (m .limits) (m .nextEpoch) (m .nextId) (m .quorum) refl refl
+
+  module _ (one : rule1 (s .limits) (nextLeaderEpoch s) (nextRecordId s) ≡ true) where
+    requests-same : (e : ℕ) → e < nextLeaderEpoch s → requestIn (s .requests) e ≡ requestIn (t .requests) e
+    requests-same e l = m .requests e (omega (arith, bounded-of s one .requests)) l
+
+    replicas-same : (i : ℕ) → i < replicaCount (s .limits) → SameReplica (replicaIn (s .replicas) i) (replicaIn (t .replicas) i)
+    replicas-same i l = m .replicas i (omega (arith, bounded-of s one .replicas)) l
+
+    from2 : firstFailing 2 (drop 1 (ruleTests s)) ≡ firstFailing 2 (drop 1 (ruleTests other))
+    unfolding other
+    from2 =
+        failing-cong 2 _ _ _ _ (rule2-same (s .limits) (nextLeaderEpoch s) (s .quorum) (s .requests) (t .requests) (s .replicas) (t .replicas) requests-same replicas-same)
+        (λ two.
+        failing-cong 3 _ _ _ _ (rule3-same (s .limits) (nextLeaderEpoch s) (s .quorum) (s .requests) (t .requests) (s .replicas) (t .replicas) requests-same replicas-same)
+        (λ three.
+        failing-cong 4 _ _ _ _ (rule4-same (s .limits) (nextLeaderEpoch s) (s .quorum) (s .requests) (t .requests) (s .replicas) (t .replicas) requests-same replicas-same)
+        (λ four.
+        failing-cong 5 _ _ _ _ (rule5-same (s .limits) (nextLeaderEpoch s) (s .quorum) (s .requests) (t .requests) (s .replicas) (t .replicas) requests-same replicas-same)
+        (λ five.
+        failing-cong 6 _ _ _ _ (rule6-same (s .limits) (nextLeaderEpoch s) (s .quorum) (s .requests) (t .requests) (s .replicas) (t .replicas) requests-same replicas-same (logs-bounded-of s one two) (nextRecordId s))
+        (λ six.
+        failing-cong 7 _ _ _ _ (rule7-same (s .limits) (nextLeaderEpoch s) (s .quorum) (s .requests) (t .requests) (s .replicas) (t .replicas) requests-same replicas-same (logs-bounded-of s one two))
+        (λ seven. refl))))))
+
+  -- equal states break the same rule first
+  pub broken-same : brokenRule s ≡ brokenRule t
+  unfolding brokenRule other
+  broken-same = failing-cong 1 _ _ _ _ refl from2 ∙ ap brokenRule other-is
+
+  -- and meet the rules alike
+  pub rules-same : rules s ≡ rules t
+  rules-same =
+      bool-ext (rules s) (rules t)
+      (λ h. broken-none t .0 (sym broken-same ∙ broken-none s .1 h))
+      (λ h. broken-none s .0 (broken-same ∙ broken-none t .1 h))
+
+-- so the tidy form of a state breaks the rule that the state breaks
+pub broken-tidy : (s : State) → brokenRule (tidy s) ≡ brokenRule s
+broken-tidy s = broken-same (tidy s) s (tidy-same s)
+
+pub rules-tidy : (s : State) → rules (tidy s) ≡ rules s
+rules-tidy s = rules-same (tidy s) s (tidy-same s)

@@ -1,0 +1,157 @@
+// The state of one partition: its limits, its quorum, its requests and its replicas.
+mod rules;
+mod tidy;
+
+ghost use mathlib.Core.Path.{_≡_};
+ghost use Rattle.cluster.specs.State.{zeroState, tidy};
+ghost use Rattle.cluster.specs.Rules.{brokenRule, stateRefusal};
+ghost use Rattle.cluster.specs.Fresh.{fresh};
+use parts::Leader;
+use parts::refusal::ACCEPTED;
+use parts::refusal::BAD_CONFIGURATION;
+use parts::refusal::BROKEN_STATE;
+use replica::Replica;
+
+// A configuration: R replicas, logs of L records, M record ids, leader epochs 0 to X.
+pub struct Limits {
+    pub replica_count: u8,
+    pub log_size: u8,
+    pub max_records: u8,
+    pub max_leader_epoch: u8,
+}
+
+// The quorum: the last leader epoch (-1 for none), the leader or none, and the ISR.
+pub struct Quorum {
+    pub epoch: i8,
+    pub leader: Leader,
+    pub isr: u8,
+}
+
+// The LeaderAndIsr request of one epoch; its place among the requests is the epoch.
+pub struct Request {
+    pub leader: Leader,
+    pub isr: u8,
+}
+
+// A state. Requests from the next leader epoch on, replicas from the count on, and records past a log's end are unused
+// room and no part of it.
+pub struct State {
+    pub limits: Limits,
+    pub next_leader_epoch: u8,
+    pub next_record_id: u8,
+    pub quorum: Quorum,
+    pub requests: [Request; 16],
+    pub replicas: [Replica; 5],
+}
+
+// A number, 0 for accepted, and the state that goes with it.
+pub struct Outcome {
+    pub refusal: u8,
+    pub state: State,
+}
+
+impl State {
+    // All zeros.
+    pub fn zero() -> State
+        ensures { λ r. ⌜ r ≡ zeroState ⌝ }
+    {
+        let none = Request {
+            leader: Leader::None,
+            isr: 0,
+        };
+        let replica = Replica::zero();
+        State {
+            limits: Limits {
+                replica_count: 0,
+                log_size: 0,
+                max_records: 0,
+                max_leader_epoch: 0,
+            },
+            next_leader_epoch: 0,
+            next_record_id: 0,
+            quorum: Quorum {
+                epoch: 0,
+                leader: Leader::None,
+                isr: 0,
+            },
+            requests: [none; 16],
+            replicas: [replica; 5],
+        }
+    }
+
+    // The fresh state of a configuration; 22 and zeros where R, L, M or X is out of range.
+    pub fn fresh(limits: Limits) -> Outcome
+        ensures { λ r. ⌜ r ≡ fresh limits ⌝ }
+    {
+        let zero = State::zero();
+        if !rules::limits_in_range(limits) {
+            return Outcome {
+                refusal: BAD_CONFIGURATION,
+                state: zero,
+            };
+        }
+        let quorum = Quorum {
+            epoch: -1,
+            leader: Leader::None,
+            isr: parts::full_isr(limits.replica_count),
+        };
+        // A fresh replica in all five places; tidying puts zeros past the count.
+        let mut replica = Replica::zero();
+        replica.epoch = -1;
+        let replicas = [replica; 5];
+        let mut all = zero;
+        all.limits = limits;
+        all.quorum = quorum;
+        all.replicas = replicas;
+        let state = tidy::tidy_replicas(all);
+        Outcome {
+            refusal: ACCEPTED,
+            state: state,
+        }
+    }
+
+    // The state with zeros in its unused room.
+    pub fn tidy(self) -> State
+        ensures { λ r. ⌜ r ≡ tidy self ⌝ }
+    {
+        tidy::tidy_replicas(tidy::tidy_requests(self))
+    }
+
+    // The number of the first state rule that is broken, 1 to 7; 0 where none is.
+    pub fn broken_rule(self) -> u8
+        ensures { λ r. ⌜ r ≡ brokenRule self ⌝ }
+    {
+        if !rules::rule_1(self) {
+            return 1;
+        }
+        if !rules::rule_2(self) {
+            return 2;
+        }
+        if !rules::rule_3(self) {
+            return 3;
+        }
+        if !rules::rule_4(self) {
+            return 4;
+        }
+        if !rules::rule_5(self) {
+            return 5;
+        }
+        if !rules::rule_6(self) {
+            return 6;
+        }
+        if !rules::rule_7(self) {
+            return 7;
+        }
+        0
+    }
+
+    // The refusal of a state that breaks a rule, 1; 0 where it meets them all.
+    pub fn state_refusal(self) -> u8
+        ensures { λ r. ⌜ r ≡ stateRefusal self ⌝ }
+    {
+        if self.broken_rule() == 0 {
+            return ACCEPTED;
+        }
+        BROKEN_STATE
+    }
+}

@@ -1,0 +1,331 @@
+// The state rules S1 to S7. Each rule after S1 relies on those before it: its `requires` says what it takes from them.
+ghost use mathlib.Core.Path.{_≡_};
+ghost use Prim.Native.Nat.{_≤_, _<_};
+ghost use mathlib.Core.Bool.{not, _&&_, _||_};
+ghost use lib.Dec.{eqb};
+ghost use Rattle.logic.specs.Tests.{allBelow};
+ghost use Rattle.parts.specs.Isr.{member};
+ghost use Rattle.parts.specs.declared.Leader.the-variants.{None};
+ghost use Rattle.parts.specs.Leader.{names, sameLeader};
+ghost use Rattle.cluster.specs.State.{replicaCount, nextLeaderEpoch, nextRecordId};
+ghost use Rattle.cluster.specs.Rules.{between, inRange, rule1, leaderAndIsrInRange, replicaInRange, replicaInRangeAt, requestInRangeAt, rule2, quorumMatchesRequest, rule3, requestLeaderInIsr, rule4, replicaMatchesRequest, replicaMeetsS5, rule5, rule6, agreesWithAll, rule7, Bounded, LogsBounded};
+use crate::Limits;
+use crate::State;
+use parts::Leader;
+use replica::Replica;
+
+// Whether n is from low to high.
+fn is_between(low: u8, high: u8, n: u8) -> bool
+    ensures { λ r. ⌜ r ≡ between low high n ⌝ }
+{
+    if n < low {
+        return false;
+    }
+    n <= high
+}
+
+// Whether R, L, M and X are in range.
+pub(crate) fn limits_in_range(c: Limits) -> bool
+    ensures { λ r. ⌜ r ≡ inRange c ⌝ }
+{
+    if is_between(1, 5, c.replica_count) {
+        if is_between(1, 16, c.log_size) {
+            if is_between(1, 64, c.max_records) {
+                return c.max_leader_epoch <= 15;
+            }
+        }
+    }
+    false
+}
+
+// S1: R, L, M, X in range; next epoch at most X+1; next id at most M.
+pub(crate) fn rule_1(s: State) -> bool
+    ensures { λ r. ⌜ r ≡ rule1 (s .limits) (nextLeaderEpoch s) (nextRecordId s) ⌝ }
+{
+    let c = s.limits;
+    if !limits_in_range(c) {
+        return false;
+    }
+    if c.max_leader_epoch + 1 < s.next_leader_epoch {
+        return false;
+    }
+    s.next_record_id <= c.max_records
+}
+
+// Whether a leader and an ISR are within n replicas.
+fn leader_and_isr_in_range(n: u8, leader: Leader, isr: u8) -> bool
+    requires { ⌜ n ≤ 5 ⌝ }
+    ensures { λ r. ⌜ r ≡ leaderAndIsrInRange n leader isr ⌝ }
+{
+    if leader.below(n) {
+        return parts::isr_below(n, isr);
+    }
+    false
+}
+
+// S2 of one replica.
+fn replica_in_range(c: Limits, p: Replica) -> bool
+    requires { ⌜ replicaCount c ≤ 5 ⌝ }
+    ensures { λ r. ⌜ r ≡ replicaInRange c p ⌝ }
+{
+    if p.end <= c.log_size {
+        let l = p.leader;
+        return leader_and_isr_in_range(c.replica_count, l, p.isr);
+    }
+    false
+}
+
+// S2 of every replica.
+fn replicas_in_range(s: State) -> bool
+    requires { ⌜ Bounded s ⌝ }
+    ensures { λ r. ⌜ r ≡ allBelow (replicaCount (s .limits)) (replicaInRangeAt (s .limits) (s .replicas)) ⌝ }
+{
+    let c = s.limits;
+    let n = c.replica_count as usize;
+    let mut i: usize = 0;
+    while i < n {
+        let p = s.replicas[i];
+        if replica_in_range(c, p) {
+            i = i + 1;
+        } else {
+            return false;
+        }
+    }
+    true
+}
+
+// S2 of every request.
+fn requests_in_range(s: State) -> bool
+    requires { ⌜ Bounded s ⌝ }
+    ensures { λ r. ⌜ r ≡ allBelow (nextLeaderEpoch s) (requestInRangeAt (replicaCount (s .limits)) (s .requests)) ⌝ }
+{
+    let c = s.limits;
+    let n = s.next_leader_epoch as usize;
+    let mut e: usize = 0;
+    while e < n {
+        let q = s.requests[e];
+        let l = q.leader;
+        if leader_and_isr_in_range(c.replica_count, l, q.isr) {
+            e = e + 1;
+        } else {
+            return false;
+        }
+    }
+    true
+}
+
+// S2: every end at most L; every leader none or below R; every ISR within the replicas.
+pub(crate) fn rule_2(s: State) -> bool
+    requires { ⌜ Bounded s ⌝ }
+    ensures { λ r. ⌜ r ≡ rule2 (s .limits) (nextLeaderEpoch s) (s .quorum) (s .requests) (s .replicas) ⌝ }
+{
+    let c = s.limits;
+    let q = s.quorum;
+    let l = q.leader;
+    if !leader_and_isr_in_range(c.replica_count, l, q.isr) {
+        return false;
+    }
+    if !requests_in_range(s) {
+        return false;
+    }
+    replicas_in_range(s)
+}
+
+// Whether there is no leader, and the ISR is the one given.
+fn no_leader_with_isr(leader: Leader, isr: u8, expected: u8) -> bool
+    ensures { λ r. ⌜ r ≡ sameLeader leader None && eqb isr expected ⌝ }
+{
+    if leader.same(Leader::None) {
+        return isr == expected;
+    }
+    false
+}
+
+// The leader, and at the start the ISR, that S3 asks of the quorum.
+fn quorum_matches_request(s: State) -> bool
+    requires { ⌜ Bounded s ⌝ }
+    ensures { λ r. ⌜ r ≡ quorumMatchesRequest (replicaCount (s .limits)) (s .quorum) (s .requests) (nextLeaderEpoch s) ⌝ }
+{
+    let q = s.quorum;
+    let l = q.leader;
+    let n = s.next_leader_epoch as usize;
+    if n == 0 {
+        let c = s.limits;
+        let full = parts::full_isr(c.replica_count);
+        return no_leader_with_isr(l, q.isr, full);
+    }
+    let last = s.requests[n - 1];
+    let m = last.leader;
+    l.same(m)
+}
+
+// S3: quorum epoch is next epoch minus 1; at -1 no leader and a full ISR, otherwise the leader of the last request.
+pub(crate) fn rule_3(s: State) -> bool
+    requires { ⌜ Bounded s ⌝ }
+    ensures { λ r. ⌜ r ≡ rule3 (replicaCount (s .limits)) (nextLeaderEpoch s) (s .quorum) (s .requests) ⌝ }
+{
+    let q = s.quorum;
+    let last = parts::last_epoch(s.next_leader_epoch);
+    if parts::same_epoch(q.epoch, last) {
+        return quorum_matches_request(s);
+    }
+    false
+}
+
+// S4 of every request.
+fn request_leaders_in_isr(s: State) -> bool
+    requires { ⌜ Bounded s ⌝ }
+    ensures { λ r. ⌜ r ≡ allBelow (nextLeaderEpoch s) (requestLeaderInIsr (s .requests)) ⌝ }
+{
+    let n = s.next_leader_epoch as usize;
+    let mut e: usize = 0;
+    while e < n {
+        let q = s.requests[e];
+        let l = q.leader;
+        if l.in_isr(q.isr) {
+            e = e + 1;
+        } else {
+            return false;
+        }
+    }
+    true
+}
+
+// S4: in the quorum and in each request, the leader is none or in the ISR there.
+pub(crate) fn rule_4(s: State) -> bool
+    requires { ⌜ Bounded s ⌝ }
+    ensures { λ r. ⌜ r ≡ rule4 (nextLeaderEpoch s) (s .quorum) (s .requests) ⌝ }
+{
+    let q = s.quorum;
+    let l = q.leader;
+    if l.in_isr(q.isr) {
+        return request_leaders_in_isr(s);
+    }
+    false
+}
+
+// The epoch, leader and ISR that S5 asks of a replica: at -1 no leader and an empty ISR, otherwise the leader of the
+// request of an epoch that is used.
+fn replica_matches_request(s: State, epoch: i8, leader: Leader, isr: u8) -> bool
+    requires { ⌜ Bounded s ⌝ }
+    ensures { λ r. ⌜ r ≡ replicaMatchesRequest (nextLeaderEpoch s) (s .requests) epoch leader isr ⌝ }
+{
+    if parts::same_epoch(epoch, -1) {
+        return no_leader_with_isr(leader, isr, 0);
+    }
+    if parts::epoch_used(s.next_leader_epoch, epoch) {
+        let e = parts::request_place(epoch);
+        let q = s.requests[e];
+        let l = q.leader;
+        return leader.same(l);
+    }
+    false
+}
+
+// Whether a replica named a that is its own leader is in its own ISR.
+fn own_leader_in_isr(leader: Leader, isr: u8, a: u8) -> bool
+    ensures { λ r. ⌜ r ≡ not (names leader a) || member isr a ⌝ }
+{
+    if leader.names(a) {
+        return parts::is_member(isr, a);
+    }
+    true
+}
+
+// S5 of the replica p named i.
+fn replica_meets_s5(s: State, p: Replica, i: usize) -> bool
+    requires { ⌜ Bounded s ⌝ }
+    requires { ⌜ i < 5 ⌝ }
+    ensures { λ r. ⌜ r ≡ replicaMeetsS5 (nextLeaderEpoch s) (s .requests) p i ⌝ }
+{
+    let l = p.leader;
+    let a = i as u8;
+    if !replica_matches_request(s, p.epoch, l, p.isr) {
+        return false;
+    }
+    if !own_leader_in_isr(l, p.isr, a) {
+        return false;
+    }
+    p.hw <= p.end
+}
+
+// S5: each replica's epoch, leader and ISR match its epoch's request, and its hw is at most its end.
+pub(crate) fn rule_5(s: State) -> bool
+    requires { ⌜ Bounded s ⌝ }
+    ensures { λ r. ⌜ r ≡ rule5 (replicaCount (s .limits)) (nextLeaderEpoch s) (s .requests) (s .replicas) ⌝ }
+{
+    let c = s.limits;
+    let n = c.replica_count as usize;
+    let mut i: usize = 0;
+    while i < n {
+        let p = s.replicas[i];
+        if replica_meets_s5(s, p, i) {
+            i = i + 1;
+        } else {
+            return false;
+        }
+    }
+    true
+}
+
+// S6: each record's id is below next id, its epoch from 0 to next epoch minus 1.
+pub(crate) fn rule_6(s: State) -> bool
+    requires { ⌜ Bounded s ⌝ }
+    requires { ⌜ LogsBounded s ⌝ }
+    ensures { λ r. ⌜ r ≡ rule6 (replicaCount (s .limits)) (nextRecordId s) (nextLeaderEpoch s) (s .replicas) ⌝ }
+{
+    let c = s.limits;
+    let n = c.replica_count as usize;
+    let mut i: usize = 0;
+    while i < n {
+        let p = s.replicas[i];
+        if p.log_is_in_use(s.next_record_id, s.next_leader_epoch) {
+            i = i + 1;
+        } else {
+            return false;
+        }
+    }
+    true
+}
+
+// S7 of the log of p and every log.
+fn log_agrees_with_all(s: State, p: Replica) -> bool
+    requires { ⌜ Bounded s ⌝ }
+    requires { ⌜ LogsBounded s ⌝ }
+    requires { ⌜ p .end ≤ 16 ⌝ }
+    ensures { λ r. ⌜ r ≡ agreesWithAll (replicaCount (s .limits)) (s .replicas) p ⌝ }
+{
+    let c = s.limits;
+    let n = c.replica_count as usize;
+    let mut j: usize = 0;
+    while j < n {
+        let q = s.replicas[j];
+        if p.log_agrees(q) {
+            j = j + 1;
+        } else {
+            return false;
+        }
+    }
+    true
+}
+
+// S7: records with one id, in one log or two, stand at one offset and carry one epoch. Five logs of at most 16 records
+// make at most 6,400 pairs, and no record past an end is one of them.
+pub(crate) fn rule_7(s: State) -> bool
+    requires { ⌜ Bounded s ⌝ }
+    requires { ⌜ LogsBounded s ⌝ }
+    ensures { λ r. ⌜ r ≡ rule7 (replicaCount (s .limits)) (s .replicas) ⌝ }
+{
+    let c = s.limits;
+    let n = c.replica_count as usize;
+    let mut i: usize = 0;
+    while i < n {
+        let p = s.replicas[i];
+        if log_agrees_with_all(s, p) {
+            i = i + 1;
+        } else {
+            return false;
+        }
+    }
+    true
+}
