@@ -16,6 +16,7 @@ use Rattle.replica.specs.declared.Replica.{Replica}
 use Rattle.replica.specs.Replica.{zeroReplica, noReplica, tidyReplica}
 use Rattle.replica.specs.Log.{logInUse, logsAgree}
 use Rattle.cluster.specs.declared.Limits.{Limits}
+use Rattle.cluster.specs.declared.Outcome.{Outcome}
 use Rattle.cluster.specs.State.{replicaCount, logSize, maxRecords, maxLeaderEpoch, replicaAt, withReplicas, tidy, zeroState}
 use Rattle.cluster.specs.Rules.{inRange, rule1, leaderAndIsrInRange, replicaInRange, rule2, quorumMatchesRequest, rule3, rule4, replicaMatchesRequest, replicaMeetsS5, rule5, rule6, agreesWithAll, rule7, rules}
 use Rattle.cluster.specs.RuleLaws.{Ranges, ranges-of}
@@ -27,7 +28,7 @@ unfolding freshState
 fresh-replica c i h l =
     getD-table 5 (freshReplicaAt c) i noReplica h ∙ cond-true (ltb i (replicaCount c)) freshReplica zeroReplica (lt-ltb i (replicaCount c) l)
 
-tidy-fresh-replica : tidyReplica freshReplica ≡ freshReplica
+pub tidy-fresh-replica : tidyReplica freshReplica ≡ freshReplica
 unfolding tidyReplica table tableFrom
 tidy-fresh-replica = refl
 
@@ -111,14 +112,16 @@ pub zero-tidy : tidy zeroState ≡ zeroState
 unfolding tidy table tableFrom tidyReplica
 zero-tidy = refl
 
+-- the answer, by whether the configuration is in range
+abbrev answer-by : Limits → Bool → Outcome
+answer-by c b = cond b (answer accepted (freshState c)) (answer badConfiguration zeroState)
+
 -- the state that goes with the answer is tidy, for every configuration
 pub fresh-answer-tidy : (c : Limits) → tidy (fresh c .state) ≡ fresh c .state
 unfolding fresh
 fresh-answer-tidy c = go (inRange c)
   where
-    go : (b : Bool)
-        → tidy (cond b (answer accepted (freshState c)) (answer badConfiguration zeroState) .state)
-        ≡ cond b (answer accepted (freshState c)) (answer badConfiguration zeroState) .state
+    go : (b : Bool) → tidy (answer-by c b .state) ≡ answer-by c b .state
     go true = fresh-tidy c
     go false = zero-tidy
 
@@ -127,8 +130,6 @@ pub fresh-answer-rules : (c : Limits) → fresh c .refusal ≡ accepted → rule
 unfolding fresh
 fresh-answer-rules c = go (inRange c) refl
   where
-    go : (b : Bool) → inRange c ≡ b
-        → cond b (answer accepted (freshState c)) (answer badConfiguration zeroState) .refusal ≡ accepted
-        → rules (cond b (answer accepted (freshState c)) (answer badConfiguration zeroState) .state) ≡ true
+    go : (b : Bool) → inRange c ≡ b → answer-by c b .refusal ≡ accepted → rules (answer-by c b .state) ≡ true
     go true e h = fresh-rules c e
     go false e h = absurd (omega arith)

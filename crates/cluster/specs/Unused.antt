@@ -127,6 +127,20 @@ module _ (c : Limits) (next : ℕ) (quorum : Quorum) (rs us : List Request) (ps 
         log-agrees-same (replicaIn ps i) (replicaIn qs i) (replicas i l) (ends i l) (replicaIn ps j)
         ∙ agrees-log-same (replicaIn ps j) (replicaIn qs j) (replicas j k) (ends j k) (replicaIn qs i)))
 
+  -- the tests from S2 on, where S2 bounds the ends of logs
+  from2-same : (nextId : ℕ) → (rule2 c next quorum rs ps ≡ true → (i : ℕ) → i < replicaCount c → replicaIn ps i .end ≤ 16)
+      → firstFailing 2 (drop 1 (ruleTests (stateOf c next nextId quorum rs ps)))
+      ≡ firstFailing 2 (drop 1 (ruleTests (stateOf c next nextId quorum us qs)))
+  from2-same nextId ends =
+      failing-cong 2 _ _ _ _ rule2-same
+      (λ two.
+      failing-cong 3 _ _ _ _ rule3-same
+      (λ three.
+      failing-cong 4 _ _ _ _ rule4-same
+      (λ four.
+      failing-cong 5 _ _ _ _ rule5-same
+      (λ five. failing-cong 6 _ _ _ _ (rule6-same (ends two) nextId) (λ six. failing-cong 7 _ _ _ _ (rule7-same (ends two)) (λ seven. refl))))))
+
 -- ---- the seven together
 module _ (s t : State) (m : Same s t) where
   -- t with the limits, the counts and the quorum of s, which are its own
@@ -137,28 +151,16 @@ module _ (s t : State) (m : Same s t) where
   unfolding other
   other-is = state-path (m .limits) (m .nextEpoch) (m .nextId) (m .quorum) refl refl
 
-  module _ (one : rule1 (s .limits) (nextLeaderEpoch s) (nextRecordId s) ≡ true) where
-    requests-same : (e : ℕ) → e < nextLeaderEpoch s → requestIn (s .requests) e ≡ requestIn (t .requests) e
-    requests-same e l = m .requests e (omega (arith, bounded-of s one .requests)) l
-
-    replicas-same : (i : ℕ) → i < replicaCount (s .limits) → SameReplica (replicaIn (s .replicas) i) (replicaIn (t .replicas) i)
-    replicas-same i l = m .replicas i (omega (arith, bounded-of s one .replicas)) l
-
-    from2 : firstFailing 2 (drop 1 (ruleTests s)) ≡ firstFailing 2 (drop 1 (ruleTests other))
-    unfolding other
-    from2 =
-        failing-cong 2 _ _ _ _ (rule2-same (s .limits) (nextLeaderEpoch s) (s .quorum) (s .requests) (t .requests) (s .replicas) (t .replicas) requests-same replicas-same)
-        (λ two.
-        failing-cong 3 _ _ _ _ (rule3-same (s .limits) (nextLeaderEpoch s) (s .quorum) (s .requests) (t .requests) (s .replicas) (t .replicas) requests-same replicas-same)
-        (λ three.
-        failing-cong 4 _ _ _ _ (rule4-same (s .limits) (nextLeaderEpoch s) (s .quorum) (s .requests) (t .requests) (s .replicas) (t .replicas) requests-same replicas-same)
-        (λ four.
-        failing-cong 5 _ _ _ _ (rule5-same (s .limits) (nextLeaderEpoch s) (s .quorum) (s .requests) (t .requests) (s .replicas) (t .replicas) requests-same replicas-same)
-        (λ five.
-        failing-cong 6 _ _ _ _ (rule6-same (s .limits) (nextLeaderEpoch s) (s .quorum) (s .requests) (t .requests) (s .replicas) (t .replicas) requests-same replicas-same (logs-bounded-of s one two) (nextRecordId s))
-        (λ six.
-        failing-cong 7 _ _ _ _ (rule7-same (s .limits) (nextLeaderEpoch s) (s .quorum) (s .requests) (t .requests) (s .replicas) (t .replicas) requests-same replicas-same (logs-bounded-of s one two))
-        (λ seven. refl))))))
+  -- where S1 holds, what is in use is in the arrays
+  from2 : rule1 (s .limits) (nextLeaderEpoch s) (nextRecordId s) ≡ true
+      → firstFailing 2 (drop 1 (ruleTests s)) ≡ firstFailing 2 (drop 1 (ruleTests other))
+  unfolding other
+  from2 one =
+      let b = bounded-of s one in
+      from2-same (s .limits) (nextLeaderEpoch s) (s .quorum) (s .requests) (t .requests) (s .replicas) (t .replicas)
+      (λ e l. m .requests e (omega (arith, b .requests)) l)
+      (λ i l. m .replicas i (omega (arith, b .replicas)) l)
+      (nextRecordId s) (logs-bounded-of s one)
 
   -- equal states break the same rule first
   pub broken-same : brokenRule s ≡ brokenRule t

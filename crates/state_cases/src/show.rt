@@ -128,7 +128,7 @@ pub(crate) fn replica(i: u8, hw: u8, epoch: u8, leader: u8, isr: u8, end: u8) {
     state(change::replica(base(), i, p));
 }
 
-// The base with another record at an offset of the replica named i, whose log is that of its number.
+// The base with another record at an offset of the replica named i; replica 0 has an end of 2, any other of 1.
 pub(crate) fn record(i: u8, offset: u8, id: u8, epoch: u8) {
     io::write_all(STDOUT_FILENO, b"record");
     number(i);

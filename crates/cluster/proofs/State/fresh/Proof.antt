@@ -6,13 +6,14 @@ use lib.Dec.{ltb}
 use lib.ListN.{replicate, getD-replicate}
 use borrow.Author.Tests.{not-true, not-false}
 use borrow.Author.Needs.{needs}
-use Rattle.logic.specs.Table.{table, tableFrom, table-cong}
+use Rattle.logic.specs.Table.{table, table-cong}
 use Rattle.parts.specs.declared.Leader.the-variants.{None}
 use Rattle.parts.specs.Epoch.{noEpoch}
 use Rattle.parts.specs.Isr.{fullIsr}
 use Rattle.replica.specs.declared.Replica.{Replica}
 use Rattle.replica.specs.Replica.{replicaOf, zeroReplica, noReplica, tidyReplica}
 use Rattle.cluster.specs.State.{replicaCount, nextLeaderEpoch, nextRecordId, stateOf, withReplicas, tidyReplicaAt, zeroState}
+use Rattle.cluster.specs.FreshLaws.{tidy-fresh-replica}
 use Rattle.cluster.specs.RuleLaws.{ranges-of}
 use Rattle.cluster.specs.declared.State.{State}
 use Rattle.cluster.specs.declared.Limits.{Limits}
@@ -30,8 +31,9 @@ abbrev tidied : State → State
 tidied s = withReplicas s (table 5 (tidyReplicaAt s))
 
 fresh-at : (c : Limits) (i : ℕ) → i < 5 → tidyReplicaAt (all c zeroState zeroReplica (fullIsr (replicaCount c))) i ≡ freshReplicaAt c i
-unfolding tidyReplica table tableFrom
-fresh-at c i h = ap (λ (p : Replica). cond (ltb i (replicaCount c)) (tidyReplica p) zeroReplica) (getD-replicate 5 i freshReplica noReplica h)
+fresh-at c i h =
+    ap (λ (p : Replica). cond (ltb i (replicaCount c)) p zeroReplica)
+    (ap tidyReplica (getD-replicate 5 i freshReplica noReplica h) ∙ tidy-fresh-replica)
 
 all-tidied : (c : Limits) → tidied (all c zeroState zeroReplica (fullIsr (replicaCount c))) ≡ freshState c
 unfolding freshState
