@@ -46,6 +46,23 @@ pub implies : (a b : Bool) → (a ≡ true → b ≡ true) → not a || b ≡ tr
 implies true b f = f refl
 implies false b f = refl
 
+-- `a || b`: b holds wherever a does not
+pub either : (a b : Bool) → a || b ≡ true → a ≡ false → b ≡ true
+either true true h e = refl
+either true false h e = sym e
+either false b h e = h
+
+-- the two tests answer alike
+unfoldable pub sameTruth : Bool → Bool → Bool
+sameTruth true b = b
+sameTruth false b = not b
+
+pub same-truth : (a b : Bool) → sameTruth a b ≡ true → a ≡ b
+unfolding sameTruth
+same-truth true b h = sym h
+same-truth false true h = h
+same-truth false false h = refl
+
 -- ---- a test of every number below a bound
 unfoldable pub allBelow : ℕ → (ℕ → Bool) → Bool
 allBelow zero test = true
