@@ -3,6 +3,7 @@ use Prim.Native.Nat.{ℕ, zero, suc}
 use mathlib.Core.Bool.{Bool, false}
 use lib.Dec.{eqb, ltb}
 use lib.IntN.{ℤ, pos, negsuc}
+use lib.Signed.{ltZ}
 
 -- -1: no epoch (Nil in the source)
 abbrev pub noEpoch : ℤ
@@ -13,6 +14,10 @@ sameEpoch (pos m) (pos n) = eqb m n
 sameEpoch (pos m) (negsuc n) = false
 sameEpoch (negsuc m) (pos n) = false
 sameEpoch (negsuc m) (negsuc n) = eqb m n
+
+-- epoch e is above epoch f, and not equal to it
+unfoldable pub higherEpoch : ℤ → ℤ → Bool
+higherEpoch e f = ltZ f e
 
 -- next epoch minus 1: the last epoch used, -1 where none is
 unfoldable pub lastEpoch : ℕ → ℤ

@@ -1,10 +1,12 @@
-// The leaves: an ISR as one byte, signed leader epochs, a leader or none, and the numbers of answers.
+// The leaves: an ISR as one byte, signed leader epochs, a leader or none, the smaller of two numbers, and the numbers of
+// answers.
 pub mod refusal;
 
 ghost use mathlib.Core.Path.{_≡_};
-ghost use Prim.Native.Nat.{_≤_};
-ghost use Rattle.parts.specs.Isr.{member, fullIsr, isrBelow};
-ghost use Rattle.parts.specs.Epoch.{sameEpoch, lastEpoch, epochUsed, requestPlace};
+ghost use Prim.Native.Nat.{_≤_, _<_, min};
+ghost use lib.IntN.{pos};
+ghost use Rattle.parts.specs.Isr.{member, fullIsr, isrBelow, without, including, isAlone};
+ghost use Rattle.parts.specs.Epoch.{sameEpoch, higherEpoch, lastEpoch, epochUsed, requestPlace};
 ghost use Rattle.parts.specs.Leader.{names, sameLeader, leaderBelow, leaderInIsr};
 
 // Whether replica i is in the ISR.
@@ -31,6 +33,63 @@ pub fn isr_below(n: u8, isr: u8) -> bool
     ensures { λ r. ⌜ r ≡ isrBelow n isr ⌝ }
 {
     isr < (1 << n)
+}
+
+// The ISR without replica a. The caller shows that the ISR is within five replicas.
+pub fn without_member(isr: u8, a: u8) -> u8
+    requires { ⌜ isr < 32 ⌝ }
+    ensures { λ r. ⌜ r ≡ without isr a ⌝ }
+{
+    if is_member(isr, a) {
+        return isr - (1 << a);
+    }
+    isr
+}
+
+// The ISR and replica a. The caller shows that both are within five replicas.
+pub fn including_member(isr: u8, a: u8) -> u8
+    requires { ⌜ isr < 32 ⌝ }
+    requires { ⌜ a < 5 ⌝ }
+    ensures { λ r. ⌜ r ≡ including isr a ⌝ }
+{
+    if is_member(isr, a) {
+        return isr;
+    }
+    isr + (1 << a)
+}
+
+// Whether replica a is alone in the ISR. The caller shows that both are within five replicas.
+pub fn is_alone(isr: u8, a: u8) -> bool
+    requires { ⌜ isr < 32 ⌝ }
+    requires { ⌜ a < 5 ⌝ }
+    ensures { λ r. ⌜ r ≡ isAlone isr a ⌝ }
+{
+    isr == 1 << a
+}
+
+// The smaller of two numbers.
+pub fn smaller(m: u8, n: u8) -> u8
+    ensures { λ r. ⌜ r ≡ min m n ⌝ }
+{
+    if m < n {
+        return m;
+    }
+    n
+}
+
+// The epoch of a number. The caller shows that it fits.
+pub fn epoch_of(n: u8) -> i8
+    requires { ⌜ n < 128 ⌝ }
+    ensures { λ r. ⌜ r ≡ pos n ⌝ }
+{
+    n as i8
+}
+
+// Whether epoch e is above epoch f, and not equal to it.
+pub fn higher_epoch(e: i8, f: i8) -> bool
+    ensures { λ r. ⌜ r ≡ higherEpoch e f ⌝ }
+{
+    f < e
 }
 
 // Whether two epochs are the same.
