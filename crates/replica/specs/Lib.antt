@@ -1,4 +1,5 @@
 pub mod Replica
 pub mod Log
+pub mod Change
 pub mod ReplicaLaws
 pub mod LogLaws

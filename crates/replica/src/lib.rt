@@ -1,10 +1,11 @@
 // One replica and its log of records.
 ghost use mathlib.Core.Path.{_≡_};
 ghost use mathlib.Core.Bool.{cond};
-ghost use Prim.Native.Nat.{_≤_};
+ghost use Prim.Native.Nat.{_≤_, _<_};
 ghost use lib.Dec.{ltb};
-ghost use Rattle.replica.specs.Replica.{zeroRecord, zeroReplica, tidyReplica};
+ghost use Rattle.replica.specs.Replica.{zeroRecord, zeroReplica, recordAt, tidyReplica};
 ghost use Rattle.replica.specs.Log.{recordInUse, logInUse, recordsAgree, recordAgrees, logsAgree};
+ghost use Rattle.replica.specs.Change.{withHw, withIsr, withRequest, append, truncateTo, truncateUnder, becomeFollowerAndTruncateTo};
 use parts::Leader;
 
 // A record: its id, and the epoch of the leader that wrote it.
@@ -25,7 +26,7 @@ pub struct Replica {
 
 impl Record {
     // The record where its offset x is below the log's end, else zeros.
-    pub fn below(self, x: usize, end: u8) -> Record
+    fn below(self, x: usize, end: u8) -> Record
         ensures { λ r. ⌜ r ≡ cond (ltb x end) self zeroRecord ⌝ }
     {
         if x < end as usize {
@@ -36,7 +37,7 @@ impl Record {
     }
 
     // Rule S6 of one record.
-    pub fn is_in_use(self, next_id: u8, next_epoch: u8) -> bool
+    fn is_in_use(self, next_id: u8, next_epoch: u8) -> bool
         ensures { λ r. ⌜ r ≡ recordInUse «next_id» «next_epoch» self ⌝ }
     {
         if self.id < next_id {
@@ -46,7 +47,7 @@ impl Record {
     }
 
     // Rule S7 of this record at offset x and another at offset y.
-    pub fn agrees(self, x: usize, other: Record, y: usize) -> bool
+    fn agrees(self, x: usize, other: Record, y: usize) -> bool
         ensures { λ r. ⌜ r ≡ recordsAgree self x other y ⌝ }
     {
         if self.id == other.id {
@@ -59,7 +60,7 @@ impl Record {
     }
 
     // Rule S7 of this record at offset x and every record of a log. The caller shows that the log's end is in its array.
-    pub fn agrees_with_log(self, x: usize, other: Replica) -> bool
+    fn agrees_with_log(self, x: usize, other: Replica) -> bool
         requires { ⌜ other .end ≤ 16 ⌝ }
         ensures { λ r. ⌜ r ≡ recordAgrees self x other ⌝ }
     {
@@ -143,5 +144,94 @@ impl Replica {
             }
         }
         true
+    }
+
+    // The record at an offset. The caller shows that the offset is in the array.
+    pub fn record_at(self, x: u8) -> Record
+        requires { ⌜ x < 16 ⌝ }
+        ensures { λ r. ⌜ r ≡ recordAt self x ⌝ }
+    {
+        self.log[x as usize]
+    }
+
+    // The replica with another high watermark.
+    pub fn with_hw(self, hw: u8) -> Replica
+        ensures { λ r. ⌜ r ≡ withHw self hw ⌝ }
+    {
+        let mut p = self;
+        p.hw = hw;
+        p
+    }
+
+    // The replica with another ISR.
+    pub fn with_isr(self, isr: u8) -> Replica
+        ensures { λ r. ⌜ r ≡ withIsr self isr ⌝ }
+    {
+        let mut p = self;
+        p.isr = isr;
+        p
+    }
+
+    // The replica with the epoch, the leader and the ISR of a request.
+    pub fn with_request(self, epoch: i8, leader: Leader, isr: u8) -> Replica
+        ensures { λ r. ⌜ r ≡ withRequest self epoch leader isr ⌝ }
+    {
+        let log = self.log;
+        Replica {
+            hw: self.hw,
+            epoch: epoch,
+            leader: leader,
+            isr: isr,
+            end: self.end,
+            log: log,
+        }
+    }
+
+    // The replica with a record added at its end. The caller shows that its array has room.
+    pub fn append(self, added: Record) -> Replica
+        requires { ⌜ self .end < 16 ⌝ }
+        ensures { λ r. ⌜ r ≡ append self added ⌝ }
+    {
+        let mut p = self;
+        let end = self.end;
+        let x = end as usize;
+        p.log[x] = added;
+        p.end = end + 1;
+        p
+    }
+
+    // The replica with its log cut to an offset, and zeros behind it. An offset past the end cuts nothing.
+    fn truncate_to(self, offset: u8) -> Replica
+        ensures { λ r. ⌜ r ≡ truncateTo self offset ⌝ }
+    {
+        let mut p = self;
+        p.end = parts::smaller(offset, self.end);
+        p.tidy()
+    }
+
+    // The replica with its log cut where a leader is named, and kept where none is.
+    fn truncate_under(self, leader: Leader, offset: u8) -> Replica
+        ensures { λ r. ⌜ r ≡ truncateUnder leader self offset ⌝ }
+    {
+        match leader {
+            Leader::None => self,
+            Leader::Broker(_) => self.truncate_to(offset),
+        }
+    }
+
+    // The replica as a follower under a request, with its log cut to an offset where the request names a leader, and its
+    // high watermark the smaller of itself and that offset.
+    pub fn become_follower_and_truncate_to(
+        self,
+        epoch: i8,
+        leader: Leader,
+        isr: u8,
+        offset: u8,
+    ) -> Replica
+        ensures { λ r. ⌜ r ≡ becomeFollowerAndTruncateTo self epoch leader isr offset ⌝ }
+    {
+        let hw = parts::smaller(offset, self.hw);
+        let cut = self.truncate_under(leader, offset);
+        cut.with_hw(hw).with_request(epoch, leader, isr)
     }
 }
