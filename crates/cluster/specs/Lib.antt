@@ -7,3 +7,7 @@ pub mod FreshLaws
 pub mod Predicates
 pub mod Unused
 pub mod Shape
+pub mod Actions
+pub mod Act
+pub mod Accepted
+pub mod ActLaws

@@ -63,7 +63,7 @@ pub record MatchesRequest (nextEpoch : ℕ) (requests : List Request) (epoch : �
   pub used : (e : ℕ) → epoch ≡ pos e → (e < nextEpoch) × (leader ≡ requestIn requests e .leader)
   pub low : (k : ℕ) → epoch ≡ negsuc k → k ≡ 0
 
--- and "a replica that is its own leader is in its own ISR. hw is at most its end."
+-- "A replica that is its own leader is in its own ISR. hw is at most its end."
 pub record MeetsS5 (nextEpoch : ℕ) (requests : List Request) (p : Replica) (i : ℕ) : Type 0 where
   pub request : MatchesRequest nextEpoch requests (p .epoch) (p .leader) (p .isr)
   pub own : p .leader ≡ Broker i → member (p .isr) i ≡ true

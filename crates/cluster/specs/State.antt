@@ -1,14 +1,15 @@
 -- The state of one partition, its equality, and its tidy form.
 -- "Unused room (past a log's end, past R, requests not sent) is no part of a state: equality ignores it, and every state
--- that is worked out or read has zeros there." Assumes nothing.
-use Prim.Native.Nat.{ℕ, _<_}
+-- that is worked out or read has zeros there (a zeroed leader is none)." Assumes nothing.
+use Prim.Native.Nat.{ℕ, _+_, _<_}
 use mathlib.Core.Path.{_≡_}
 use mathlib.Core.Bool.{cond}
 use mathlib.Core.List.{List}
 use lib.Dec.{ltb}
 use lib.IntN.{pos}
-use lib.ListN.{getD, replicate}
+use lib.ListN.{getD, set, replicate}
 use Rattle.logic.specs.Table.{table}
+use Rattle.parts.specs.declared.Leader.{Leader}
 use Rattle.parts.specs.declared.Leader.the-variants.{None}
 use Rattle.replica.specs.declared.Replica.{Replica}
 use Rattle.replica.specs.Replica.{zeroReplica, noReplica, tidyReplica, SameReplica}
@@ -77,6 +78,28 @@ withRequests s l = stateOf (s .limits) (nextLeaderEpoch s) (nextRecordId s) (s .
 
 abbrev pub withReplicas : State → List Replica → State
 withReplicas s l = stateOf (s .limits) (nextLeaderEpoch s) (nextRecordId s) (s .quorum) (s .requests) l
+
+-- ---- the state with one part put anew; an action's effect is made of these alone
+unfoldable pub withReplica : State → ℕ → Replica → State
+withReplica s i p = withReplicas s (set (s .replicas) i p)
+
+unfoldable pub withQuorumIsr : State → ℕ → State
+withQuorumIsr s isr =
+    stateOf (s .limits) (nextLeaderEpoch s) (nextRecordId s)
+    (record { epoch = s .quorum .epoch; leader = s .quorum .leader; isr = isr })
+    (s .requests) (s .replicas)
+
+unfoldable pub withNextRecordId : State → ℕ → State
+withNextRecordId s n = stateOf (s .limits) (nextLeaderEpoch s) n (s .quorum) (s .requests) (s .replicas)
+
+-- ControllerUpdateIsr(newLeader, newIsr): "Kinds 0 and 1 set the quorum epoch to next epoch, raise it, and store the new
+-- quorum as that epoch's request."
+unfoldable pub controllerUpdateIsr : State → Leader → ℕ → State
+controllerUpdateIsr s newLeader newIsr =
+    stateOf (s .limits) (nextLeaderEpoch s + 1) (nextRecordId s)
+    (record { epoch = pos (nextLeaderEpoch s); leader = newLeader; isr = newIsr })
+    (set (s .requests) (nextLeaderEpoch s) (record { leader = newLeader; isr = newIsr }))
+    (s .replicas)
 
 -- ---- equality of states
 -- two states are equal: all that they hold is, and nothing in unused room counts. There are 16 places for requests and 5

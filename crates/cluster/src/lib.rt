@@ -1,4 +1,12 @@
-// The state of one partition: its limits, its quorum, its requests and its replicas.
+// The state of one partition: its limits, its quorum, its requests and its replicas, and the nine actions on it.
+mod act;
+mod controller;
+mod fields;
+mod follower;
+mod kinds;
+mod leader;
+mod leadership;
+mod requests;
 mod rules;
 mod tidy;
 
@@ -42,6 +50,35 @@ pub struct State {
     pub quorum: Quorum,
     pub requests: [Request; 16],
     pub replicas: [Replica; 5],
+}
+
+// An action: its kind, 0 to 8, and its operands, two replicas and an epoch. Every four bytes are one.
+pub struct Action {
+    pub kind: u8,
+    pub a: u8,
+    pub b: u8,
+    pub e: u8,
+}
+
+// The kind of an action, by the source's names (kind 3 has a shorter one), and one for every other number.
+pub enum Kind {
+    ControllerShrinkIsr,
+    ControllerElectLeader,
+    BecomeLeader,
+    BecomeFollower,
+    LeaderWrite,
+    LeaderShrinkIsr,
+    LeaderExpandIsr,
+    LeaderIncHighWatermark,
+    FollowerReplicate,
+    Unknown,
+}
+
+// Which of its operands a, b and e an action uses.
+pub struct Uses {
+    pub a: bool,
+    pub b: bool,
+    pub e: bool,
 }
 
 // A number, 0 for accepted, and the state that goes with it.

@@ -1,0 +1,33 @@
+use Prim.Native.Nat.{ℕ}
+use mathlib.Core.Path.{_∙_, ap, sym}
+use Rattle.parts.specs.Refusal.{accepted}
+use Rattle.cluster.specs.ActLaws.{answer-other, answer-zero}
+use Rattle.cluster.specs.Accepted.{action-accepted}
+use Rattle.cluster.specs.Fresh.{answer}
+use Rattle.cluster.specs.Act.{answerBy, effect, step}
+use Rattle.cluster.proofs.State.step.Statement.{statement}
+use Rattle.cluster.proofs.State.step.Tie as tie
+
+action-refusal-requires : tie.Need-action-refusal-requires
+action-refusal-requires c κs = c .pre .0
+
+effect-requires : tie.Need-effect-requires
+effect-requires c κs =
+    let x = c .before .before .args in
+    (c .before .before .pre .0, action-accepted (x .self) (x .action) (sym (c .before .action-refusal .ensures) ∙ c .if1 .taken))
+
+returns : tie.Need-returns
+unfolding step
+returns c =
+    ap (answer accepted) (c .effect .ensures)
+    ∙ answer-zero _ (c .before .before .before .args .self) _ (sym (c .before .before .action-refusal .ensures) ∙ c .before .if1 .taken)
+
+returns-2 : tie.Need-returns-2
+unfolding step
+returns-2 c =
+    let x = c .before .before .args in
+    answer-other _ (x .self) (effect (x .self) (x .action)) (c .if1 .left)
+    ∙ ap (λ (n : ℕ). answerBy n (x .self) (effect (x .self) (x .action))) (c .before .action-refusal .ensures)
+
+pub step-spec : {M : Type 1} → statement M
+step-spec = tie.close (tie.spec action-refusal-requires effect-requires returns returns-2)

@@ -1,0 +1,124 @@
+-- What an action answers: its kind and its operands, the refusals before the table, and the next state. Assumes nothing.
+use Prim.Native.Nat.{ℕ, zero, suc, _+_}
+use mathlib.Core.Bool.{Bool, true, false, not, cond}
+use mathlib.Core.List.{List, [], _∷_}
+use lib.Dec.{eqb, ltb}
+use lib.ListN.{getD}
+use Rattle.logic.specs.Tests.{every}
+use Rattle.logic.specs.Refuse.{refuse}
+use Rattle.parts.specs.Refusal.{accepted, brokenState, unknownKind, badOperand}
+use Rattle.cluster.specs.declared.Limits.{Limits}
+use Rattle.cluster.specs.declared.State.{State}
+use Rattle.cluster.specs.declared.Outcome.{Outcome}
+use Rattle.cluster.specs.declared.Action.{Action}
+use Rattle.cluster.specs.declared.Uses.{Uses}
+use Rattle.cluster.specs.declared.Kind.{Kind}
+use Rattle.cluster.specs.declared.Kind.the-variants.{ControllerShrinkIsr, ControllerElectLeader, BecomeLeader, BecomeFollower, LeaderWrite, LeaderShrinkIsr, LeaderExpandIsr, LeaderIncHighWatermark, FollowerReplicate, Unknown}
+use Rattle.cluster.specs.State.{replicaCount, maxLeaderEpoch, tidy}
+use Rattle.cluster.specs.Rules.{rules}
+use Rattle.cluster.specs.Fresh.{answer}
+use Rattle.cluster.specs.Actions.{controllerShrinkIsrRefusal, controllerShrinkIsr, controllerElectLeaderRefusal, controllerElectLeader, becomeLeaderRefusal, becomeLeader, becomeFollowerRefusal, becomeFollowerAndTruncateToHw, leaderWriteRefusal, leaderWrite, leaderShrinkIsrRefusal, leaderShrinkIsr, leaderExpandIsrRefusal, leaderExpandIsr, leaderIncHighWatermarkRefusal, leaderIncHighWatermark, followerReplicateRefusal, followerReplicate}
+
+-- ---- kinds
+-- the kinds 0 to 8, in this order; any other number is unknown
+abbrev pub kinds : List Kind
+kinds =
+    ControllerShrinkIsr
+    ∷ ControllerElectLeader
+    ∷ BecomeLeader
+    ∷ BecomeFollower
+    ∷ LeaderWrite
+    ∷ LeaderShrinkIsr
+    ∷ LeaderExpandIsr
+    ∷ LeaderIncHighWatermark
+    ∷ FollowerReplicate
+    ∷ []
+
+unfoldable pub kindOf : ℕ → Kind
+kindOf n = getD kinds n Unknown
+
+-- ---- the operands that a kind uses: column "operands" of the table
+abbrev pub useOf : Bool → Bool → Bool → Uses
+useOf a b e = record { a = a; b = b; e = e }
+
+unfoldable pub uses : Kind → Uses
+uses ControllerShrinkIsr = useOf true false false
+uses ControllerElectLeader = useOf true false false
+uses BecomeLeader = useOf false false true
+uses BecomeFollower = useOf true false true
+uses LeaderWrite = useOf true false false
+uses LeaderShrinkIsr = useOf true true false
+uses LeaderExpandIsr = useOf true true false
+uses LeaderIncHighWatermark = useOf true false false
+uses FollowerReplicate = useOf true true false
+uses Unknown = useOf false false false
+
+-- a used operand is below its bound, an unused one is 0
+unfoldable pub operandFits : Bool → ℕ → ℕ → Bool
+operandFits used bound n = cond used (ltb n bound) (eqb n 0)
+
+abbrev pub operandTests : Limits → Action → List Bool
+operandTests c action =
+    operandFits (uses (kindOf (action .kind)) .a) (replicaCount c) (action .a)
+    ∷ operandFits (uses (kindOf (action .kind)) .b) (replicaCount c) (action .b)
+    ∷ operandFits (uses (kindOf (action .kind)) .e) (maxLeaderEpoch c + 1) (action .e)
+    ∷ []
+
+unfoldable pub operandsFit : Limits → Action → Bool
+operandsFit c action = every (operandTests c action)
+
+-- ---- the table, by kind
+unfoldable pub tableRefusal : Kind → State → ℕ → ℕ → ℕ → ℕ
+tableRefusal ControllerShrinkIsr s a b e = controllerShrinkIsrRefusal s a
+tableRefusal ControllerElectLeader s a b e = controllerElectLeaderRefusal s a
+tableRefusal BecomeLeader s a b e = becomeLeaderRefusal s e
+tableRefusal BecomeFollower s a b e = becomeFollowerRefusal s a e
+tableRefusal LeaderWrite s a b e = leaderWriteRefusal s a
+tableRefusal LeaderShrinkIsr s a b e = leaderShrinkIsrRefusal s a b
+tableRefusal LeaderExpandIsr s a b e = leaderExpandIsrRefusal s a b
+tableRefusal LeaderIncHighWatermark s a b e = leaderIncHighWatermarkRefusal s a
+tableRefusal FollowerReplicate s a b e = followerReplicateRefusal s a b
+tableRefusal Unknown s a b e = unknownKind
+
+unfoldable pub tableEffect : Kind → State → ℕ → ℕ → ℕ → State
+tableEffect ControllerShrinkIsr s a b e = controllerShrinkIsr s a
+tableEffect ControllerElectLeader s a b e = controllerElectLeader s a
+tableEffect BecomeLeader s a b e = becomeLeader s e
+tableEffect BecomeFollower s a b e = becomeFollowerAndTruncateToHw s a e
+tableEffect LeaderWrite s a b e = leaderWrite s a
+tableEffect LeaderShrinkIsr s a b e = leaderShrinkIsr s a b
+tableEffect LeaderExpandIsr s a b e = leaderExpandIsr s a b
+tableEffect LeaderIncHighWatermark s a b e = leaderIncHighWatermark s a
+tableEffect FollowerReplicate s a b e = followerReplicate s a b
+tableEffect Unknown s a b e = s
+
+-- ---- an action on a state that meets the rules and is tidy
+-- "kind above 8 is 2; a used replica operand not below R, a used epoch operand above X, or an unused operand not 0 is 3",
+-- then the table
+unfoldable pub actionRefusal : State → Action → ℕ
+actionRefusal s action =
+    refuse (ltb 8 (action .kind)) unknownKind
+    (refuse (not (operandsFit (s .limits) action)) badOperand
+    (tableRefusal (kindOf (action .kind)) s (action .a) (action .b) (action .e)))
+
+-- the next state, where the action is accepted
+unfoldable pub effect : State → Action → State
+effect s action = tableEffect (kindOf (action .kind)) s (action .a) (action .b) (action .e)
+
+-- the answer by a refusal number: the next state at 0, else the number and the state as given
+unfoldable pub answerBy : ℕ → State → State → Outcome
+answerBy zero given next = answer accepted next
+answerBy (suc n) given next = answer (suc n) given
+
+-- what an action answers on such a state
+unfoldable pub step : State → Action → Outcome
+step s action = answerBy (actionRefusal s action) s (effect s action)
+
+-- ---- an action on any state
+-- "state breaks a rule 1"; then as above, of the state with zeros in its unused room
+unfoldable pub refusal : State → Action → ℕ
+refusal s action = refuse (not (rules s)) brokenState (actionRefusal (tidy s) action)
+
+-- what an action answers: accepted, the next state; refused, the number and the state as given
+unfoldable pub act : State → Action → Outcome
+act s action = answerBy (refusal s action) s (effect (tidy s) action)
