@@ -1,0 +1,11 @@
+pub mod Tidy
+pub mod Records
+pub mod Sound
+pub mod Put
+pub mod Quorum
+pub mod Request
+pub mod Changes
+pub mod Kinds
+pub mod Kept
+pub mod Answers
+pub mod Examples
