@@ -1,5 +1,4 @@
 // The configuration, the actions and the damage that a run draws.
-use crate::draw;
 use cluster::Action;
 use cluster::Limits;
 use cluster::Request;

@@ -20,21 +20,21 @@ fn limits(c: Limits) {
     number(c.max_leader_epoch as u64);
 }
 
-// Where a run stands: its seed, its state and its digest.
-pub struct Stand {
+// How far a run has come: its seed, its state and its digest.
+pub struct Progress {
     pub seed: u64,
     pub state: State,
     pub digest: u64,
 }
 
-// Takes one drawn action, prints its number, and answers where the run stands then.
-fn turn(stand: Stand) -> Stand {
-    let k = draw::next(stand.seed);
+// Takes one drawn action, prints its number, and answers how far the run has come then.
+fn turn(run: Progress) -> Progress {
+    let k = draw::next(run.seed);
     let a = draw::next(k);
     let b = draw::next(a);
     let e = draw::next(b);
     let x = draw::next(e);
-    let s = stand.state;
+    let s = run.state;
     let action = choose::action(
         s,
         draw::digit(k),
@@ -47,10 +47,10 @@ fn turn(stand: Stand) -> Stand {
     let t = o.state;
     // A state that breaks a rule is left, and the run goes on from the one before.
     let next = if o.refusal == 1 { s } else { t };
-    Stand {
+    Progress {
         seed: x,
         state: next,
-        digest: digest::state(stand.digest, t),
+        digest: digest::state(run.digest, t),
     }
 }
 
@@ -68,7 +68,7 @@ pub(crate) fn run(seed: u64) -> u64 {
     );
     let start = State::fresh(c);
     let s = start.state;
-    let mut stand = Stand {
+    let mut run = Progress {
         seed: x,
         state: s,
         digest: 0,
@@ -78,11 +78,11 @@ pub(crate) fn run(seed: u64) -> u64 {
     io::write_all(STDOUT_FILENO, b" numbers");
     let mut n: usize = 0;
     while n < 100 {
-        stand = turn(stand);
+        run = turn(run);
         n = n + 1;
     }
     io::write_all(STDOUT_FILENO, b" digest");
-    number(stand.digest);
+    number(run.digest);
     io::write_all(STDOUT_FILENO, b"\n");
-    stand.seed
+    run.seed
 }

@@ -4,6 +4,8 @@ use Prim.Native.Nat.{ℕ, zero, suc, _≤_}
 use mathlib.Core.Path.{_≡_, refl, sym, _∙_, ap₂}
 use mathlib.Core.Bool.{Bool, true, false, not}
 use native.Mathlib.Omega.{arith}
+use lib.Dec.{leb}
+use borrow.Author.Tests.{leb-true}
 use Rattle.logic.specs.Refuse.{refuse}
 use Rattle.parts.specs.declared.Leader.{Leader}
 use Rattle.parts.specs.declared.Leader.the-variants.{None, Broker}
@@ -18,14 +20,9 @@ use Rattle.cluster.specs.Equality.{same-refl, same-iff-tidy}
 use Rattle.cluster.specs.Unused.{rules-same}
 use Rattle.cluster.specs.Actions.{controllerShrinkIsrRefusal, controllerElectLeaderRefusal, leaderRefusal, becomeLeaderRefusal, becomeFollowerRefusal, leaderWriteRefusal, leaderShrinkIsrRefusal, leaderExpandIsrRefusal, leaderIncHighWatermarkRefusal, followerReplicateRefusal}
 use Rattle.cluster.specs.Act.{kindOf, tableRefusal, actionRefusal, effect, answerBy, refusal, act}
-use Rattle.cluster.specs.ActLaws.{answer-zero, answer-other}
+use Rattle.cluster.specs.ActLaws.{answer-number, answer-zero, answer-other}
 
 -- ---- the number, and the state that goes with it
-answer-number : (n : ℕ) (s next : State) → answerBy n s next .refusal ≡ n
-unfolding answerBy
-answer-number zero s next = refl
-answer-number (suc n) s next = refl
-
 pub act-number : (s : State) (action : Action) → act s action .refusal ≡ refusal s action
 unfolding act
 act-number s action = answer-number (refusal s action) s (effect (tidy s) action)
@@ -41,38 +38,40 @@ unfolding act
 act-refused s action h = sym (answer-other (refusal s action) s (effect (tidy s) action) h)
 
 -- ---- the numbers are 0 to 19
-refuse-small : (test : Bool) (number rest : ℕ) → number ≤ 19 → rest ≤ 19 → refuse test number rest ≤ 19
+refuse-small : (test : Bool) (number rest : ℕ) → leb number 19 ≡ true → rest ≤ 19 → refuse test number rest ≤ 19
 unfolding refuse
-refuse-small true number rest h k = h
+refuse-small true number rest h k = leb-true number 19 h
 refuse-small false number rest h k = k
+
+accepted-small : accepted ≤ 19
+accepted-small = omega arith
 
 module _ (s : State) where
   leader-small : (e : ℕ) (leader : Leader) → leaderRefusal s e leader ≤ 19
   unfolding leaderRefusal
   leader-small e None = omega arith
-  leader-small e (Broker b) = refuse-small _ _ _ (omega arith) (omega arith)
+  leader-small e (Broker b) = refuse-small _ _ _ refl accepted-small
 
   table-small : (kind : Kind) (a b e : ℕ) → tableRefusal kind s a b e ≤ 19
   unfolding tableRefusal controllerShrinkIsrRefusal controllerElectLeaderRefusal becomeLeaderRefusal becomeFollowerRefusal leaderWriteRefusal
       leaderShrinkIsrRefusal leaderExpandIsrRefusal leaderIncHighWatermarkRefusal followerReplicateRefusal
-  table-small ControllerShrinkIsr a b e = refuse-small _ _ _ (omega arith) (refuse-small _ _ _ (omega arith) (omega arith))
-  table-small ControllerElectLeader a b e = refuse-small _ _ _ (omega arith) (refuse-small _ _ _ (omega arith) (refuse-small _ _ _ (omega arith) (omega arith)))
-  table-small BecomeLeader a b e = refuse-small _ _ _ (omega arith) (leader-small e (requestAt s e .leader))
-  table-small BecomeFollower a b e = refuse-small _ _ _ (omega arith) (refuse-small _ _ _ (omega arith) (refuse-small _ _ _ (omega arith) (omega arith)))
-  table-small LeaderWrite a b e = refuse-small _ _ _ (omega arith) (refuse-small _ _ _ (omega arith) (refuse-small _ _ _ (omega arith) (omega arith)))
-  table-small LeaderShrinkIsr a b e =
-      refuse-small _ _ _ (omega arith) (refuse-small _ _ _ (omega arith) (refuse-small _ _ _ (omega arith) (refuse-small _ _ _ (omega arith) (omega arith))))
-  table-small LeaderExpandIsr a b e = refuse-small _ _ _ (omega arith) (refuse-small _ _ _ (omega arith) (refuse-small _ _ _ (omega arith) (omega arith)))
-  table-small LeaderIncHighWatermark a b e = refuse-small _ _ _ (omega arith) (refuse-small _ _ _ (omega arith) (omega arith))
-  table-small FollowerReplicate a b e = refuse-small _ _ _ (omega arith) (refuse-small _ _ _ (omega arith) (refuse-small _ _ _ (omega arith) (omega arith)))
+  table-small ControllerShrinkIsr a b e = refuse-small _ _ _ refl (refuse-small _ _ _ refl accepted-small)
+  table-small ControllerElectLeader a b e = refuse-small _ _ _ refl (refuse-small _ _ _ refl (refuse-small _ _ _ refl accepted-small))
+  table-small BecomeLeader a b e = refuse-small _ _ _ refl (leader-small e (requestAt s e .leader))
+  table-small BecomeFollower a b e = refuse-small _ _ _ refl (refuse-small _ _ _ refl (refuse-small _ _ _ refl accepted-small))
+  table-small LeaderWrite a b e = refuse-small _ _ _ refl (refuse-small _ _ _ refl (refuse-small _ _ _ refl accepted-small))
+  table-small LeaderShrinkIsr a b e = refuse-small _ _ _ refl (refuse-small _ _ _ refl (refuse-small _ _ _ refl (refuse-small _ _ _ refl accepted-small)))
+  table-small LeaderExpandIsr a b e = refuse-small _ _ _ refl (refuse-small _ _ _ refl (refuse-small _ _ _ refl accepted-small))
+  table-small LeaderIncHighWatermark a b e = refuse-small _ _ _ refl (refuse-small _ _ _ refl accepted-small)
+  table-small FollowerReplicate a b e = refuse-small _ _ _ refl (refuse-small _ _ _ refl (refuse-small _ _ _ refl accepted-small))
   table-small Unknown a b e = omega arith
 
 pub refusal-small : (s : State) (action : Action) → refusal s action ≤ 19
 unfolding refusal actionRefusal
 refusal-small s action =
-    refuse-small _ _ _ (omega arith)
-    (refuse-small _ _ _ (omega arith)
-    (refuse-small _ _ _ (omega arith) (table-small (tidy s) (kindOf (action .kind)) (action .a) (action .b) (action .e))))
+    refuse-small _ _ _ refl
+    (refuse-small _ _ _ refl
+    (refuse-small _ _ _ refl (table-small (tidy s) (kindOf (action .kind)) (action .a) (action .b) (action .e))))
 
 -- ---- equal states get equal answers: no answer depends on unused room
 answer-same : (n : ℕ) (s t next : State) → Same s t → Same (answerBy n s next .state) (answerBy n t next .state)

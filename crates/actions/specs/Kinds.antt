@@ -61,7 +61,7 @@ module _ (c : Limits) (s : State) (d : Sound c s) where
   controller-shrink-sound : (a : ℕ) → controllerShrinkIsrRefusal s a ≡ accepted → Sound c (controllerShrinkIsr s a)
   unfolding controllerShrinkIsr
   controller-shrink-sound a h =
-      shrink-by-sound a (controller-shrink-accepted s a (r .s1) h) (names (s .quorum .leader) a) (isAlone (s .quorum .isr) a) refl
+      shrink-by-sound a (controller-shrink-accepted s a (r .s1) h .1) (names (s .quorum .leader) a) (isAlone (s .quorum .isr) a) refl
 
   elect-sound : (a : ℕ) → a < R → controllerElectLeaderRefusal s a ≡ accepted → Sound c (controllerElectLeader s a)
   unfolding controllerElectLeader

@@ -87,9 +87,11 @@ module _ (s : State) where
   request-sent e h = leb-false (nextLeaderEpoch s) e h
 
   pub controller-shrink-accepted : (a : ℕ) → S1 s → controllerShrinkIsrRefusal s a ≡ accepted
-      → EpochLeft s
+      → (member (s .quorum .isr) a ≡ true) × (EpochLeft s)
   unfolding controllerShrinkIsrRefusal
-  controller-shrink-accepted a one h = epoch-left s one (refuse-zero _ _ _ (refuse-zero _ _ _ h .1) .0)
+  controller-shrink-accepted a one h =
+      let p = refuse-zero _ _ _ h in
+      (not-false _ (p .0), epoch-left s one (refuse-zero _ _ _ (p .1) .0))
 
   pub elect-accepted : (a : ℕ) → S1 s → controllerElectLeaderRefusal s a ≡ accepted
       → (member (s .quorum .isr) a ≡ true) × (EpochLeft s)

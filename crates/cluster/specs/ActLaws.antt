@@ -1,10 +1,10 @@
 -- What the rules give to the code of the actions, and what an action answers by its refusal. Assumes nothing.
 use Prim.Native.Nat.{ℕ, zero, suc, _≤_, _<_}
 use mathlib.Core.Bool.{Bool, cond, true, false, not}
-use mathlib.Core.Path.{ap, refl, _≡_, sym, _∙_}
+use mathlib.Core.Path.{ap, refl, _≡_, sym}
 use native.Mathlib.Omega.{arith}
 use lib.ListN.{length, List·getD-eq-default}
-use Rattle.logic.specs.Table.{cond-false, cond-true}
+use Rattle.logic.specs.Table.{cond-true}
 use Rattle.logic.specs.Refuse.{refuse, refuse-no}
 use Rattle.parts.specs.Refusal.{brokenState, accepted}
 use Rattle.parts.specs.IsrLaws.{below-32}
@@ -86,17 +86,10 @@ pub kind-unknown : (n : ℕ)
 kind-unknown n a b c d e f g h i = sym (kind-past n (past-eight n (past-four n a b c d e) f g h i))
 
 -- ---- what an action answers, by its refusal
--- an answer that is accepted is the same whatever state was given; one that is refused has the state that was given
-pub answer-accepted : (n : ℕ) (s t next : State) → answerBy n t next .refusal ≡ accepted → answerBy n t next ≡ answerBy n s next
+pub answer-number : (n : ℕ) (s next : State) → answerBy n s next .refusal ≡ n
 unfolding answerBy
-answer-accepted zero s t next h = refl
-answer-accepted (suc n) s t next h = absurd (omega arith)
-
-pub answer-refused : (n : ℕ) (s t next : State) → (answerBy n t next .refusal ≡ accepted → ⊥)
-    → answer (answerBy n t next .refusal) s ≡ answerBy n s next
-unfolding answerBy
-answer-refused zero s t next h = absurd (h refl)
-answer-refused (suc n) s t next h = refl
+answer-number zero s next = refl
+answer-number (suc n) s next = refl
 
 pub answer-zero : (n : ℕ) (s next : State) → n ≡ accepted → answer accepted next ≡ answerBy n s next
 unfolding answerBy
@@ -117,14 +110,6 @@ act-broken s action h = go (rules s) refl
     go false e = refl
 
 -- one that meets them
-pub rules-met : (s : State) → stateRefusal s ≡ accepted → rules s ≡ true
-unfolding stateRefusal
-rules-met s h = go (rules s) refl
-  where
-    go : (b : Bool) → rules s ≡ b → b ≡ true
-    go true e = refl
-    go false e = absurd (let z = sym h ∙ cond-false (rules s) accepted brokenState e in omega arith)
-
 pub act-met : (s : State) (action : Action) → rules s ≡ true → answerBy (actionRefusal (tidy s) action) s (effect (tidy s) action) ≡ act s action
 unfolding act refusal
 act-met s action h = ap (λ (n : ℕ). answerBy n s (effect (tidy s) action)) (refuse-no _ _ _ (ap not h))

@@ -8,6 +8,7 @@ use native.Mathlib.Omega.{arith}
 use lib.Dec.{eqb, leb, eqb·suc-zero}
 use lib.IntN.{ℤ, pos, negsuc}
 use borrow.Author.Tests.{leb-true}
+use Rattle.logic.specs.Table.{cond-false}
 use Rattle.logic.specs.Tests.{all-at, every-at, failing-zero, and-left, and-right, true-false}
 use Rattle.parts.specs.declared.Leader.{Leader}
 use Rattle.parts.specs.declared.Leader.the-variants.{None}
@@ -141,3 +142,12 @@ refusal-some s h = go (rules s) refl
     go : (b : Bool) → rules s ≡ b → brokenState ≡ cond b accepted brokenState
     go true e = absurd (h (broken-none s .1 e))
     go false e = refl
+
+-- a state that is not refused meets the rules
+pub refusal-met : (s : State) → stateRefusal s ≡ accepted → rules s ≡ true
+unfolding stateRefusal
+refusal-met s h = go (rules s) refl
+  where
+    go : (b : Bool) → rules s ≡ b → b ≡ true
+    go true e = refl
+    go false e = absurd (let z = sym h ∙ cond-false (rules s) accepted brokenState e in omega arith)

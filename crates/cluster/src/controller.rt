@@ -1,10 +1,10 @@
 // Kinds 0 and 1: what the controller does. The caller of a refusal shows that the state meets the rules; the caller of an
-// effect shows also that the action is accepted, and for kind 0 that a is one of the replicas.
+// effect shows also that the action is accepted.
 ghost use mathlib.Core.Path.{_≡_};
 ghost use mathlib.Core.Bool.{true};
 ghost use Prim.Native.Nat.{_<_};
 ghost use Rattle.parts.specs.Refusal.{accepted};
-ghost use Rattle.cluster.specs.State.{replicaCount, nextLeaderEpoch, controllerUpdateIsr};
+ghost use Rattle.cluster.specs.State.{nextLeaderEpoch, controllerUpdateIsr};
 ghost use Rattle.cluster.specs.Rules.{rules};
 ghost use Rattle.cluster.specs.Actions.{controllerShrinkIsrRefusal, controllerShrinkIsr, controllerElectLeaderRefusal, controllerElectLeader};
 use crate::Quorum;
@@ -60,7 +60,6 @@ impl State {
     // keeps it.
     pub(crate) fn controller_shrink_isr(self, a: u8) -> State
         requires { ⌜ rules self ≡ true ⌝ }
-        requires { ⌜ a < replicaCount (self .limits) ⌝ }
         requires { ⌜ controllerShrinkIsrRefusal self a ≡ accepted ⌝ }
         ensures { λ r. ⌜ r ≡ controllerShrinkIsr self a ⌝ }
     {

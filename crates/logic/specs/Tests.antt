@@ -36,6 +36,15 @@ and-right true b h = h
 and-right false true h = refl
 and-right false false h = h
 
+-- a part that decides nothing
+pub and-yes : (b : Bool) → b && true ≡ b
+and-yes true = refl
+and-yes false = refl
+
+pub or-no : (b : Bool) → b || false ≡ b
+or-no true = refl
+or-no false = refl
+
 -- `not a || b`: b holds wherever a does
 pub implied : (a b : Bool) → not a || b ≡ true → a ≡ true → b ≡ true
 implied true b h e = h

@@ -1,9 +1,8 @@
 -- Leader epochs: "an epoch is a signed number, and -1 means none". Assumes nothing.
 use Prim.Native.Nat.{ℕ, zero, suc}
-use mathlib.Core.Bool.{Bool, false}
+use mathlib.Core.Bool.{Bool, true, false}
 use lib.Dec.{eqb, ltb}
 use lib.IntN.{ℤ, pos, negsuc}
-use lib.Signed.{ltZ}
 
 -- -1: no epoch (Nil in the source)
 abbrev pub noEpoch : ℤ
@@ -15,9 +14,12 @@ sameEpoch (pos m) (negsuc n) = false
 sameEpoch (negsuc m) (pos n) = false
 sameEpoch (negsuc m) (negsuc n) = eqb m n
 
--- epoch e is above epoch f, and not equal to it
+-- the first epoch is above the second, and not equal to it
 unfoldable pub higherEpoch : ℤ → ℤ → Bool
-higherEpoch e f = ltZ f e
+higherEpoch (pos m) (pos n) = ltb n m
+higherEpoch (pos m) (negsuc n) = true
+higherEpoch (negsuc m) (pos n) = false
+higherEpoch (negsuc m) (negsuc n) = ltb m n
 
 -- next epoch minus 1: the last epoch used, -1 where none is
 unfoldable pub lastEpoch : ℕ → ℤ

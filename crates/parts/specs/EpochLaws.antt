@@ -12,7 +12,7 @@ use mir.Val.{ofZ, toZ, SFits}
 use mir.Facts.{toZ-pos, toZ-ofZ}
 use borrow.Author.Tests.{ltb-true, lt-ltb, eqb-true, eqb-false, ne-eqb, eq-eqb}
 use Rattle.logic.specs.Tests.{true-false}
-use Rattle.parts.specs.Epoch.{sameEpoch, lastEpoch, epochUsed, requestPlace}
+use Rattle.parts.specs.Epoch.{sameEpoch, higherEpoch, lastEpoch, epochUsed, requestPlace}
 
 pub pos-injective : (a b : ℕ) → pos a ≡ pos b → a ≡ b
 pos-injective a b e = cc
@@ -52,6 +52,14 @@ same-bits (pos m) (pos n) h k = refl
 same-bits (pos m) (negsuc n) h k = ne-eqb m (256 - suc n) (omega arith)
 same-bits (negsuc m) (pos n) h k = ne-eqb (256 - suc m) n (omega arith)
 same-bits (negsuc m) (negsuc n) h k = eqb-by (256 - suc m) (256 - suc n) m n (λ e. omega arith) (λ e. omega arith)
+
+-- the strict comparison of code, read the other way round
+pub higher-is : (e f : ℤ) → ltZ f e ≡ higherEpoch e f
+unfolding higherEpoch
+higher-is (pos m) (pos n) = refl
+higher-is (pos m) (negsuc n) = refl
+higher-is (negsuc m) (pos n) = refl
+higher-is (negsuc m) (negsuc n) = refl
 
 -- ---- an epoch in code is a byte, whose bits y are read back as a signed number
 -- below 0 no epoch is used, and its place is 0

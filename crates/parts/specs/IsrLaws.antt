@@ -7,7 +7,7 @@ use native.Mathlib.Omega.{arith}
 use native.Mathlib.Decide.{decLt}
 use lib.Dec.{eqb, ltb, leb}
 use borrow.Author.Tests.{leb-true, eqb-true, ne-eqb, ltb-true, lt-ltb, le-ltb}
-use Rattle.logic.specs.Tests.{allBelow, all-at, all-by, and-left, and-right, and-true, implied, implies, either, sameTruth, same-truth, true-false}
+use Rattle.logic.specs.Tests.{allBelow, all-at, all-by, and-left, and-right, and-true, and-yes, or-no, implied, implies, either, sameTruth, same-truth, true-false}
 use Rattle.parts.specs.Isr.{member, fullIsr, isrBelow, bit, isrOf, without, including, noOther, isAlone}
 
 pub member-past : (isr i : ℕ) → 5 ≤ i → member isr i ≡ false
@@ -166,33 +166,25 @@ including-below n isr a h l k =
     at i false e m = let q : i ≡ a = eqb-true i a m in omega arith
 
 -- ---- the same as sums and differences of bytes
+-- an ISR is that of any test which names its members
+isrOf-ext : (isr : ℕ) (test : ℕ → Bool) → isr < 32 → ((i : ℕ) → member isr i ≡ test i) → isr ≡ isrOf test
+isrOf-ext isr test h f = sym (isrOf-member isr h) ∙ isrOf-cong (member isr) test (λ i l. f i)
+
 pub without-absent : (isr a : ℕ) → isr < 32 → member isr a ≡ false → isr ≡ without isr a
 unfolding without
-without-absent isr a h e =
-    sym (isrOf-member isr h)
-    ∙ isrOf-cong (member isr) (λ i. member isr i && not (eqb i a)) (λ i l. at i (eqb i a) refl)
+without-absent isr a h e = isrOf-ext isr (λ i. member isr i && not (eqb i a)) h (λ i. at i (eqb i a) refl)
   where
     at : (i : ℕ) (b : Bool) → eqb i a ≡ b → member isr i ≡ (member isr i && not b)
     at i true q = rw (eqb-true i a q, e)
-    at i false q = sym (unit (member isr i))
-      where
-        unit : (c : Bool) → c && true ≡ c
-        unit true = refl
-        unit false = refl
+    at i false q = sym (and-yes (member isr i))
 
 pub including-present : (isr a : ℕ) → isr < 32 → member isr a ≡ true → isr ≡ including isr a
 unfolding including
-including-present isr a h e =
-    sym (isrOf-member isr h)
-    ∙ isrOf-cong (member isr) (λ i. member isr i || eqb i a) (λ i l. at i (eqb i a) refl)
+including-present isr a h e = isrOf-ext isr (λ i. member isr i || eqb i a) h (λ i. at i (eqb i a) refl)
   where
     at : (i : ℕ) (b : Bool) → eqb i a ≡ b → member isr i ≡ (member isr i || b)
     at i true q = rw (eqb-true i a q, e)
-    at i false q = sym (unit (member isr i))
-      where
-        unit : (c : Bool) → c || false ≡ c
-        unit true = refl
-        unit false = refl
+    at i false q = sym (or-no (member isr i))
 
 -- a test of every ISR of five replicas and each of them
 at-each : (test : ℕ → ℕ → Bool) → allBelow 32 (λ isr. allBelow 5 (test isr)) ≡ true → (isr a : ℕ) → isr < 32 → a < 5 → test isr a ≡ true

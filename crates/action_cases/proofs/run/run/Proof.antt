@@ -5,10 +5,10 @@ use Rattle.action_cases.proofs.run.run.Statement.{statement}
 use Rattle.action_cases.proofs.run.run.Tie as tie
 
 abbrev Inv-loop : tie.InvT-loop
-Inv-loop seed r l m x stand₀ n₀ t13 t14 stand n = n ≤ 100
+Inv-loop seed r l m x run₀ n₀ t13 t14 run n = n ≤ 100
 
 abbrev μ-loop : tie.MeasureT-loop
-μ-loop seed r l m x stand₀ n₀ t13 t14 stand n = 100 - n
+μ-loop seed r l m x run₀ n₀ t13 t14 run n = 100 - n
 
 next-requires : tie.Need-next-requires Inv-loop μ-loop
 next-requires c κs = search needs

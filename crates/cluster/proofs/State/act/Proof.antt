@@ -2,9 +2,10 @@ use Prim.Native.Nat.{ℕ}
 use mathlib.Core.Path.{_∙_, _≡_, ap, sym}
 use mathlib.Core.Bool.{true}
 use borrow.Author.Needs.{needs}
+use Rattle.cluster.specs.ActLaws.{act-broken, act-met, answer-number, answer-other, answer-zero}
+use Rattle.cluster.specs.RuleLaws.{refusal-met}
 use Rattle.cluster.specs.declared.Outcome.{Outcome}
 use Rattle.cluster.specs.declared.State.{State}
-use Rattle.cluster.specs.ActLaws.{act-broken, act-met, answer-accepted, answer-refused, rules-met}
 use Rattle.cluster.specs.Act.{actionRefusal, answerBy, effect, step}
 use Rattle.cluster.specs.Fresh.{answer}
 use Rattle.cluster.specs.Rules.{rules}
@@ -14,21 +15,23 @@ use Rattle.cluster.specs.Equality.{tidy-twice}
 use Rattle.cluster.proofs.State.act.Statement.{statement}
 use Rattle.cluster.proofs.State.act.Tie as tie
 
-met-by : (z : tie.Else1) → rules (z .before .before .args .self) ≡ true
-met-by z = rules-met (z .before .before .args .self) (sym (z .before .state-refusal .ensures) ∙ z .if1 .left)
+met : (z : tie.Else1) → rules (z .before .before .args .self) ≡ true
+met z = refusal-met (z .before .before .args .self) (sym (z .before .state-refusal .ensures) ∙ z .if1 .left)
 
-stepped : (z : tie.After-step) → let x = z .before .before .before .before .args in z .step .result ≡ answerBy (actionRefusal (tidy (x .self)) (x .action)) (tidy (x .self)) (effect (tidy (x .self)) (x .action))
+stepped : (z : tie.After-step) → let t = tidy (z .before .before .before .before .args .self) in z .step .result ≡ answerBy (actionRefusal t (z .before .before .before .before .args .action)) t (effect t (z .before .before .before .before .args .action))
 unfolding step
 stepped z = z .step .ensures ∙ ap (λ (t : State). step t (z .before .before .before .before .args .action)) (z .before .tidy .ensures)
+
+number : (z : tie.After-step) → let x = z .before .before .before .before .args in z .step .result .refusal ≡ actionRefusal (tidy (x .self)) (x .action)
+number z = ap (λ (o : Outcome). o .refusal) (stepped z) ∙ answer-number _ _ _
 
 state-refusal-requires : tie.Need-state-refusal-requires
 state-refusal-requires c κs = search needs
 
 returns : tie.Need-returns
 returns c =
-    let x = c .before .before .args in
-    ap (λ (n : ℕ). answer n (x .self)) (c .before .state-refusal .ensures)
-    ∙ act-broken (x .self) (x .action) (λ e. c .if1 .taken (c .before .state-refusal .ensures ∙ e))
+    ap (λ (n : ℕ). answer n (c .before .before .args .self)) (c .before .state-refusal .ensures)
+    ∙ act-broken (c .before .before .args .self) (c .before .before .args .action) (λ e. c .if1 .taken (c .before .state-refusal .ensures ∙ e))
 
 tidy-requires : tie.Need-tidy-requires
 tidy-requires c κs = search needs
@@ -36,21 +39,23 @@ tidy-requires c κs = search needs
 step-requires : tie.Need-step-requires
 step-requires c κs =
     let x = c .before .before .before .args in
-    rw (c .tidy .ensures) (rules-tidy (x .self) ∙ met-by (c .before), tidy-twice (x .self))
+    rw (c .tidy .ensures) (rules-tidy (x .self) ∙ met (c .before), tidy-twice (x .self))
 
 returns-2 : tie.Need-returns-2
 returns-2 c =
     let s = c .before .before .before .before .before .before .args .self in
-    (stepped (c .before .before))
-    ∙ answer-accepted _ s (tidy s) _ (ap (λ (o : Outcome). o .refusal) (sym (stepped (c .before .before))) ∙ c .if2 .taken)
-    ∙ act-met s (c .before .before .before .before .before .before .args .action) (met-by (c .before .before .before .before))
+    let zero = sym (number (c .before .before)) ∙ c .if2 .taken in
+    stepped (c .before .before)
+    ∙ sym (answer-zero _ (tidy s) _ zero)
+    ∙ answer-zero _ s _ zero
+    ∙ act-met s (c .before .before .before .before .before .before .args .action) (met (c .before .before .before .before))
 
 returns-3 : tie.Need-returns-3
 returns-3 c =
     let s = c .before .before .before .before .before .before .args .self in
-    ap (λ (o : Outcome). answer (o .refusal) s) (stepped (c .before .before))
-    ∙ answer-refused _ s (tidy s) _ (λ e. c .if2 .left (ap (λ (o : Outcome). o .refusal) (stepped (c .before .before)) ∙ e))
-    ∙ act-met s (c .before .before .before .before .before .before .args .action) (met-by (c .before .before .before .before))
+    ap (λ (n : ℕ). answer n s) (number (c .before .before))
+    ∙ answer-other _ s _ (λ e. c .if2 .left (number (c .before .before) ∙ e))
+    ∙ act-met s (c .before .before .before .before .before .before .args .action) (met (c .before .before .before .before))
 
 pub act-spec : {M : Type 1} → statement M
 act-spec =

@@ -1,19 +1,21 @@
-use Prim.Native.Nat.{_<_}
-use mathlib.Core.Path.{_∙_, ap, sym}
+use mathlib.Core.Path.{_≡_, _∙_, ap, sym}
+use mathlib.Core.Bool.{true}
 use borrow.Author.Needs.{needs}
+use Rattle.parts.specs.Isr.{member}
+use Rattle.parts.specs.IsrLaws.{member-below}
 use Rattle.parts.specs.declared.Leader.the-variants.{None}
-use Rattle.cluster.specs.State.{nextLeaderEpoch, controllerUpdateIsr}
-use Rattle.cluster.specs.Accepted.{controller-shrink-accepted}
+use Rattle.cluster.specs.Accepted.{EpochLeft, controller-shrink-accepted}
+use Rattle.cluster.specs.State.{controllerUpdateIsr}
 use Rattle.cluster.specs.Predicates.{rules-iff}
 use Rattle.cluster.specs.Actions.{controllerShrinkIsr, shrinkBy}
-use Rattle.cluster.specs.ActLaws.{quorum-isr-small, replica-five, request-room}
+use Rattle.cluster.specs.ActLaws.{quorum-isr-small, request-room}
 use Rattle.cluster.proofs.State.controller_shrink_isr.Statement.{statement}
 use Rattle.cluster.proofs.State.controller_shrink_isr.Tie as tie
 
-room : (z : tie.After-q) → nextLeaderEpoch (z .before .args .self) < 16
-room z =
+allowed : (z : tie.After-q) → (member (z .before .args .self .quorum .isr) (z .before .args .a) ≡ true) × EpochLeft (z .before .args .self)
+allowed z =
     let x = z .before .args in
-    request-room (x .self) (z .before .pre .0) (controller-shrink-accepted (x .self) (x .a) (rules-iff (x .self) .0 (z .before .pre .0) .s1) (z .before .pre .1 .1))
+    controller-shrink-accepted (x .self) (x .a) (rules-iff (x .self) .0 (z .before .pre .0) .s1) (z .before .pre .1)
 
 without-member-requires : tie.Need-without-member-requires
 without-member-requires c κs = quorum-isr-small (c .before .args .self) (c .before .pre .0)
@@ -24,17 +26,17 @@ names-requires c κs = search needs
 is-alone-requires : tie.Need-is-alone-requires
 is-alone-requires c κs =
     let x = c .before .before .before .before .args in
-    (quorum-isr-small (x .self) (c .before .before .before .before .pre .0), replica-five (x .self) (c .before .before .before .before .pre .0) (x .a) (c .before .before .before .before .pre .1 .0))
+    (quorum-isr-small (x .self) (c .before .before .before .before .pre .0), member-below (x .self .quorum .isr) (x .a) (allowed (c .before .before .before) .0))
 
 controller-update-isr-requires : tie.Need-controller-update-isr-requires
-controller-update-isr-requires c κs = room (c .before .before .before .before .before)
+controller-update-isr-requires c κs = request-room (c .before .before .before .before .before .before .args .self) (c .before .before .before .before .before .before .pre .0) (allowed (c .before .before .before .before .before) .1)
 
 returns : tie.Need-returns
 unfolding controllerShrinkIsr shrinkBy
 returns c = rw (sym (c .before .before .before .before .names .ensures) ∙ c .before .before .before .if1 .taken, sym (c .before .before .is-alone .ensures) ∙ c .before .if2 .taken) (c .controller-update-isr .ensures)
 
 controller-update-isr-requires-2 : tie.Need-controller-update-isr-requires-2
-controller-update-isr-requires-2 c κs = room (c .before .before .before .before .before)
+controller-update-isr-requires-2 c κs = request-room (c .before .before .before .before .before .before .args .self) (c .before .before .before .before .before .before .pre .0) (allowed (c .before .before .before .before .before) .1)
 
 returns-2 : tie.Need-returns-2
 unfolding controllerShrinkIsr shrinkBy
@@ -43,7 +45,7 @@ returns-2 c =
     (c .controller-update-isr2 .ensures ∙ ap (controllerUpdateIsr (c .before .before .before .before .before .before .before .args .self) None) (c .before .before .before .before .before .without-member .ensures))
 
 controller-update-isr-requires-3 : tie.Need-controller-update-isr-requires-3
-controller-update-isr-requires-3 c κs = room (c .before .before .before)
+controller-update-isr-requires-3 c κs = request-room (c .before .before .before .before .args .self) (c .before .before .before .before .pre .0) (allowed (c .before .before .before) .1)
 
 returns-3 : tie.Need-returns-3
 unfolding controllerShrinkIsr shrinkBy

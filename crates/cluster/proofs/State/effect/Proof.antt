@@ -28,8 +28,8 @@ enum-told : tie.Need-enum-told
 enum-told c = search needs
 
 controller-shrink-isr-requires : tie.Need-controller-shrink-isr-requires
-unfolding uses tableRefusal
-controller-shrink-isr-requires c κs = (c .before .before .before .pre .0, (operands (c .before .before) ControllerShrinkIsr (c .enum-told .given .1) .a-below refl, table (c .before .before) ControllerShrinkIsr (c .enum-told .given .1)))
+unfolding tableRefusal
+controller-shrink-isr-requires c κs = (c .before .before .before .pre .0, table (c .before .before) ControllerShrinkIsr (c .enum-told .given .1))
 
 enum-told-2 : tie.Need-enum-told-2
 enum-told-2 c = search needs
