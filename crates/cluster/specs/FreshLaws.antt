@@ -1,5 +1,5 @@
 -- The fresh state of every accepted configuration meets S1 to S7 and is tidy. Assumes nothing.
-use Prim.Native.Nat.{ℕ, _+_, _-_, _<_}
+use Prim.Native.Nat.{ℕ, _+_, _<_}
 use mathlib.Core.Path.{_≡_, refl, _∙_, ap}
 use mathlib.Core.Bool.{Bool, true, false, cond}
 use native.Mathlib.Omega.{arith}
@@ -125,11 +125,15 @@ fresh-answer-tidy c = go (inRange c)
     go true = fresh-tidy c
     go false = zero-tidy
 
--- and meets S1 to S7 wherever the answer is 0
-pub fresh-answer-rules : (c : Limits) → fresh c .refusal ≡ accepted → rules (fresh c .state) ≡ true
+-- where the answer is 0, the configuration is in range, and the state is its fresh state
+pub fresh-accepted : (c : Limits) → fresh c .refusal ≡ accepted → (inRange c ≡ true) × (fresh c .state ≡ freshState c)
 unfolding fresh
-fresh-answer-rules c = go (inRange c) refl
+fresh-accepted c = go (inRange c)
   where
-    go : (b : Bool) → inRange c ≡ b → answer-by c b .refusal ≡ accepted → rules (answer-by c b .state) ≡ true
-    go true e h = fresh-rules c e
-    go false e h = absurd (omega arith)
+    go : (b : Bool) → answer-by c b .refusal ≡ accepted → (b ≡ true) × (answer-by c b .state ≡ freshState c)
+    go true h = (refl, refl)
+    go false h = absurd (omega arith)
+
+-- which meets S1 to S7
+pub fresh-answer-rules : (c : Limits) → fresh c .refusal ≡ accepted → rules (fresh c .state) ≡ true
+fresh-answer-rules c h = let p = fresh-accepted c h in rw (p .1) (fresh-rules c (p .0))

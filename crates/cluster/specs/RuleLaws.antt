@@ -8,7 +8,7 @@ use native.Mathlib.Omega.{arith}
 use lib.Dec.{eqb, leb, eqb·suc-zero}
 use lib.IntN.{ℤ, pos, negsuc}
 use borrow.Author.Tests.{leb-true}
-use Rattle.logic.specs.Table.{cond-false}
+use Rattle.logic.specs.Table.{cond-true, cond-false}
 use Rattle.logic.specs.Tests.{all-at, every-at, failing-zero, and-left, and-right, true-false}
 use Rattle.parts.specs.declared.Leader.{Leader}
 use Rattle.parts.specs.declared.Leader.the-variants.{None}
@@ -151,3 +151,12 @@ refusal-met s h = go (rules s) refl
     go : (b : Bool) → rules s ≡ b → b ≡ true
     go true e = refl
     go false e = absurd (let z = sym h ∙ cond-false (rules s) accepted brokenState e in omega arith)
+
+-- a number other than 0 is 1, and the state breaks a rule
+pub refusal-broken : (s : State) → (stateRefusal s ≡ accepted → ⊥) → (rules s ≡ false) × (stateRefusal s ≡ brokenState)
+unfolding stateRefusal
+refusal-broken s h = go (rules s) refl
+  where
+    go : (b : Bool) → rules s ≡ b → (rules s ≡ false) × (stateRefusal s ≡ brokenState)
+    go true e = absurd (h (cond-true (rules s) accepted brokenState e))
+    go false e = (e, cond-false (rules s) accepted brokenState e)

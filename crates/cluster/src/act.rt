@@ -59,7 +59,7 @@ impl State {
     }
 
     // The refusal of an action, 2 to 19, or 0. The caller shows that the state meets the rules.
-    fn action_refusal(self, action: Action) -> u8
+    pub fn action_refusal(self, action: Action) -> u8
         requires { ⌜ rules self ≡ true ⌝ }
         ensures { λ r. ⌜ r ≡ actionRefusal self action ⌝ }
     {

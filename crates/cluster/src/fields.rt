@@ -1,5 +1,5 @@
 // The parts of a state, read by number, and the state with one part put anew. The caller of each function that takes a
-// number shows that the array has that place.
+// place shows that the array has it.
 ghost use mathlib.Core.Path.{_≡_};
 ghost use Prim.Native.Nat.{_<_};
 ghost use Rattle.cluster.specs.State.{requestAt, replicaAt, withReplica, withQuorumIsr, withNextRecordId};
@@ -8,8 +8,8 @@ use crate::State;
 use replica::Replica;
 
 impl State {
-    // The replica named i.
-    pub(crate) fn replica_at(self, i: u8) -> Replica
+    // The replica named i. The caller shows that i is below 5.
+    pub fn replica_at(self, i: u8) -> Replica
         requires { ⌜ i < 5 ⌝ }
         ensures { λ r. ⌜ r ≡ replicaAt self i ⌝ }
     {

@@ -10,7 +10,7 @@ use crate::Uses;
 
 impl Kind {
     // The kind of a number.
-    pub(crate) fn of(n: u8) -> Kind
+    pub fn of(n: u8) -> Kind
         ensures { λ r. ⌜ r ≡ kindOf n ⌝ }
     {
         match n {
@@ -28,7 +28,7 @@ impl Kind {
     }
 
     // The operands that the kind uses.
-    fn uses(self) -> Uses
+    pub fn uses(self) -> Uses
         ensures { λ r. ⌜ r ≡ uses self ⌝ }
     {
         match self {

@@ -7,8 +7,8 @@ ghost use Rattle.cluster.specs.Actions.{replicaPresumesLeadership, repli
 use crate::State;
 
 impl State {
-    // Whether a replica's own leader is itself.
-    pub(crate) fn replica_presumes_leadership(self, replica: u8) -> bool
+    // Whether a replica's own leader is itself. The caller shows that it is below 5.
+    pub fn replica_presumes_leadership(self, replica: u8) -> bool
         requires { ⌜ replica < 5 ⌝ }
         ensures { λ r. ⌜ r ≡ replicaPresumesLeadership self replica ⌝ }
     {

@@ -2,3 +2,4 @@ pub mod Tests
 pub mod Table
 pub mod Refuse
 pub mod Lists
+pub mod Search

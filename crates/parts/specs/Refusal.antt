@@ -84,3 +84,7 @@ nothingToReplicate = 19
 -- R, L, M or X is out of range
 abbrev pub badConfiguration : ℕ
 badConfiguration = 22
+
+-- no operands are accepted, so there is nothing to offer
+abbrev pub noOffer : ℕ
+noOffer = 26

@@ -40,3 +40,5 @@ pub const NOT_FOLLOWING: u8 = 18;
 pub const NOTHING_TO_REPLICATE: u8 = 19;
 // R, L, M or X is out of range.
 pub const BAD_CONFIGURATION: u8 = 22;
+// No operands are accepted, so there is nothing to offer.
+pub const NO_OFFER: u8 = 26;

@@ -4,7 +4,7 @@ ghost use mathlib.Core.Bool.{cond};
 ghost use Prim.Native.Nat.{_≤_, _<_};
 ghost use lib.Dec.{ltb};
 ghost use Rattle.replica.specs.Replica.{zeroRecord, zeroReplica, recordAt, tidyReplica};
-ghost use Rattle.replica.specs.Log.{recordInUse, logInUse, recordsAgree, recordAgrees, logsAgree};
+ghost use Rattle.replica.specs.Log.{recordInUse, logInUse, recordsAgree, recordAgrees, logsAgree, sameRecord, holdSameRecord};
 ghost use Rattle.replica.specs.Change.{withHw, withIsr, withRequest, append, truncateTo, truncateUnder, becomeFollowerAndTruncateTo};
 use parts::Leader;
 
@@ -42,6 +42,16 @@ impl Record {
     {
         if self.id < next_id {
             return parts::epoch_used(next_epoch, self.epoch);
+        }
+        false
+    }
+
+    // Whether id and epoch agree.
+    fn same(self, other: Record) -> bool
+        ensures { λ r. ⌜ r ≡ sameRecord self other ⌝ }
+    {
+        if self.id == other.id {
+            return parts::same_epoch(self.epoch, other.epoch);
         }
         false
     }
@@ -144,6 +154,23 @@ impl Replica {
             }
         }
         true
+    }
+
+    // Whether two logs hold the same record at an offset: both have it, and id and epoch agree. The caller shows that the
+    // end of the first is in its array.
+    pub fn holds_same_record(self, other: Replica, x: u8) -> bool
+        requires { ⌜ self .end ≤ 16 ⌝ }
+        ensures { λ r. ⌜ r ≡ holdSameRecord self other x ⌝ }
+    {
+        if self.end <= x {
+            return false;
+        }
+        if other.end <= x {
+            return false;
+        }
+        let r = self.record_at(x);
+        let q = other.record_at(x);
+        r.same(q)
     }
 
     // The record at an offset. The caller shows that the offset is in the array.
