@@ -1,0 +1,74 @@
+use Prim.Native.Nat.{ℕ}
+use mathlib.Core.Bool.{not, true}
+use mathlib.Core.Path.{_∙_, _≡_, ap, sym}
+use borrow.Author.Needs.{needs}
+use borrow.Author.Tests.{le-ltb, lt-ltb}
+use Rattle.cluster.specs.ActLaws.{epochs-small}
+use Rattle.cluster.specs.RuleLaws.{refusal-broken, refusal-met}
+use Rattle.cluster.specs.Rules.{rules}
+use Rattle.cluster.specs.State.{tidy}
+use Rattle.cluster.specs.Unused.{rules-tidy}
+use Rattle.cluster.specs.declared.State.{State}
+use Rattle.logic.specs.Table.{cond-false, cond-true}
+use Rattle.questions.specs.Offer.{findOffer, offer, offerAnswer, offerOf, smallestAccepted}
+use Rattle.questions.specs.declared.Bounds.{Bounds}
+use Rattle.questions.proofs.offer.Statement.{statement}
+use Rattle.questions.proofs.offer.Tie as tie
+
+met : (z : tie.Else1) → rules (z .before .before .args .s) ≡ true
+met z = refusal-met (z .before .before .args .s) (sym (z .before .state-refusal .ensures) ∙ z .if1 .left)
+
+state-refusal-requires : tie.Need-state-refusal-requires
+state-refusal-requires c κs = search needs
+
+refused-requires : tie.Need-refused-requires
+refused-requires c κs = search needs
+
+returns : tie.Need-returns
+unfolding offer
+returns c =
+    let state-refusal = c .before .before .state-refusal in
+    let p = refusal-broken (c .before .before .before .args .s) (λ e. c .before .if1 .taken (state-refusal .ensures ∙ e)) in
+    c .refused .ensures ∙ ap (λ (n : ℕ). offerAnswer n 0 0 0) (state-refusal .ensures ∙ p .1) ∙ sym (cond-true _ _ _ (ap not (p .0)))
+
+refused-requires-2 : tie.Need-refused-requires-2
+refused-requires-2 c κs = search needs
+
+returns-2 : tie.Need-returns-2
+unfolding offer
+returns-2 c = c .refused2 .ensures ∙ sym (cond-true _ _ _ (lt-ltb _ _ (c .before .if2 .taken))) ∙ sym (cond-false _ _ _ (ap not (met (c .before .before))))
+
+tidy-requires : tie.Need-tidy-requires
+tidy-requires c κs = search needs
+
+operand-bounds-requires : tie.Need-operand-bounds-requires
+operand-bounds-requires c κs =
+    let s = c .before .before .before .before .before .args .s in
+    rw (c .before .tidy .ensures) (epochs-small (tidy s) (rules-tidy s ∙ met (c .before .before .before)))
+
+offer-within-requires : tie.Need-offer-within-requires
+offer-within-requires c κs = rw (c .before .before .tidy .ensures) (rules-tidy (c .before .before .before .before .before .before .args .s) ∙ met (c .before .before .before .before))
+
+returns-3 : tie.Need-returns-3
+unfolding offer findOffer
+returns-3 c =
+    let kind = c .before .before .before .before .before .before .before .args .kind in
+    c .offer-within .ensures
+    ∙ ap (λ (n : Bounds). offerOf (smallestAccepted (c .before .before .before .tidy .result) kind n)) (c .before .operand-bounds .ensures)
+    ∙ ap (λ (t : State). findOffer t kind) (c .before .before .before .tidy .ensures)
+    ∙ sym (cond-false _ _ _ (le-ltb _ _ (c .before .before .before .before .if2 .left)))
+    ∙ sym (cond-false _ _ _ (ap not (met (c .before .before .before .before .before))))
+
+pub offer-spec : {M : Type 1} → statement M
+offer-spec =
+    tie.close
+    (tie.spec
+    state-refusal-requires
+    refused-requires
+    returns
+    refused-requires-2
+    returns-2
+    tidy-requires
+    operand-bounds-requires
+    offer-within-requires
+    returns-3)

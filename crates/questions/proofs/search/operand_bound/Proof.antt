@@ -1,0 +1,16 @@
+use mathlib.Core.Path.{sym}
+use Rattle.logic.specs.Table.{cond-false, cond-true}
+use Rattle.questions.specs.Offer.{operandBound}
+use Rattle.questions.proofs.search.operand_bound.Statement.{statement}
+use Rattle.questions.proofs.search.operand_bound.Tie as tie
+
+returns : tie.Need-returns
+unfolding operandBound
+returns c = sym (cond-true _ _ _ (c .if1 .taken))
+
+returns-2 : tie.Need-returns-2
+unfolding operandBound
+returns-2 c = sym (cond-false _ _ _ (c .if1 .left))
+
+pub operand-bound-spec : {M : Type 1} → statement M
+operand-bound-spec = tie.close (tie.spec returns returns-2)

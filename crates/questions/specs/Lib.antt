@@ -1,0 +1,5 @@
+pub mod Isr
+pub mod Offer
+pub mod OfferLaws
+pub mod IsrTheorems
+pub mod OfferTheorems

@@ -1,0 +1,33 @@
+-- The turns of the loops that search for an offer. Assumes nothing.
+use Prim.Native.Nat.{ℕ, _+_, _≤_, _<_}
+use mathlib.Core.Path.{_≡_, refl, _∙_, ap}
+use mathlib.Core.Option.{Option, none, some}
+use native.Mathlib.Omega.{arith}
+use Rattle.logic.specs.Search.{Triple, firstBelow, first-found, first-more, first-done}
+use Rattle.parts.specs.Refusal.{accepted, noOffer}
+use Rattle.questions.specs.Offer.{offerAnswer, offerOf}
+
+-- ---- what f i gives is offered; the first that is offered below n is looked for
+module _ (f : ℕ → Option Triple) where
+  -- i is offered, and none below it is
+  pub offer-found : (n i : ℕ) → i < n → firstBelow i f ≡ none → offerOf (f i) .refusal ≡ accepted → offerOf (f i) ≡ offerOf (firstBelow n f)
+  unfolding offerOf
+  offer-found n i l p h = go (f i) refl
+    where
+      go : (o : Option Triple) → f i ≡ o → offerOf (f i) ≡ offerOf (firstBelow n f)
+      go none e = absurd (let z : offerOf none .refusal ≡ accepted = (rw e at h) in omega arith)
+      go (some t) e = ap offerOf (e ∙ first-found f n i t l p e)
+
+  -- neither i nor one below it is
+  pub offer-more : (i : ℕ) → firstBelow i f ≡ none → (offerOf (f i) .refusal ≡ accepted → ⊥) → firstBelow (i + 1) f ≡ none
+  unfolding offerOf
+  offer-more i p h = go (f i) refl
+    where
+      go : (o : Option Triple) → f i ≡ o → firstBelow (i + 1) f ≡ none
+      go none e = first-more f i p e
+      go (some t) e = absurd (h (ap (λ (o : Option Triple). offerOf o .refusal) e))
+
+  -- the end: none below n is
+  pub offer-done : (n i : ℕ) → i ≤ n → n ≤ i → firstBelow i f ≡ none → offerAnswer noOffer 0 0 0 ≡ offerOf (firstBelow n f)
+  unfolding offerOf
+  offer-done n i h k p = ap offerOf (first-done f n i h k p)

@@ -1,0 +1,133 @@
+// Three questions about a state: weak ISR, strong ISR, and what action it offers.
+mod isr;
+mod search;
+
+ghost use mathlib.Core.Path.{_≡_};
+ghost use mathlib.Core.Bool.{true};
+ghost use Rattle.cluster.specs.Rules.{rules};
+ghost use Rattle.questions.specs.Isr.{checkIsr, askIsr, weakIsr, strongIsr};
+ghost use Rattle.questions.specs.Offer.{offer};
+use cluster::State;
+use parts::refusal::ACCEPTED;
+use parts::refusal::UNKNOWN_KIND;
+
+// A property of the ISRs of a state.
+pub enum Property {
+    WeakIsr,
+    StrongIsr,
+}
+
+// An answer on such a property: a number, 0 for accepted; whether it holds; where it fails, the smallest failing leader,
+// member and offset, which are 0 otherwise. Beside a refusal `holds` is false.
+pub struct IsrAnswer {
+    pub refusal: u8,
+    pub holds: bool,
+    pub leader: u8,
+    pub member: u8,
+    pub offset: u8,
+}
+
+// An offer: a number, 0 for accepted, and the operands of an action, which are 0 beside a refusal.
+pub struct OfferAnswer {
+    pub refusal: u8,
+    pub a: u8,
+    pub b: u8,
+    pub e: u8,
+}
+
+// The bounds below which operands are tried.
+pub struct Bounds {
+    pub a: u8,
+    pub b: u8,
+    pub e: u8,
+}
+
+// What a property answers on a state that is known to meet the rules: they are not tested. The caller shows them.
+pub fn check_isr(property: Property, s: State) -> IsrAnswer
+    requires { ⌜ rules s ≡ true ⌝ }
+    ensures { λ r. ⌜ r ≡ checkIsr property s ⌝ }
+{
+    let c = s.limits;
+    let n = c.replica_count;
+    let mut answer = IsrAnswer {
+        refusal: ACCEPTED,
+        holds: true,
+        leader: 0,
+        member: 0,
+        offset: 0,
+    };
+    let mut r: u8 = 0;
+    'leaders: while r < n {
+        let p = s.replica_at(r);
+        let mut m: u8 = 0;
+        while m < n {
+            let q = s.replica_at(m);
+            let offsets = isr::offsets_asked(property, s, r, m);
+            let mut x: u8 = 0;
+            while x < offsets {
+                if !p.holds_same_record(q, x) {
+                    answer.holds = false;
+                    answer.leader = r;
+                    answer.member = m;
+                    answer.offset = x;
+                    break 'leaders;
+                }
+                x = x + 1;
+            }
+            m = m + 1;
+        }
+        r = r + 1;
+    }
+    answer
+}
+
+// What a property answers on any state: 1 and zeros where the state breaks a rule.
+fn ask_isr(property: Property, s: State) -> IsrAnswer
+    ensures { λ r. ⌜ r ≡ askIsr property s ⌝ }
+{
+    let refusal = s.state_refusal();
+    if refusal == ACCEPTED {
+        return check_isr(property, s);
+    }
+    IsrAnswer {
+        refusal: refusal,
+        holds: false,
+        leader: 0,
+        member: 0,
+        offset: 0,
+    }
+}
+
+// Weak ISR: each presuming replica and each member of its own ISR hold the same records below that replica's high
+// watermark. Answers that it holds, or the smallest failure; 1 where the state breaks a rule.
+pub fn weak_isr(s: State) -> IsrAnswer
+    ensures { λ r. ⌜ r ≡ weakIsr s ⌝ }
+{
+    ask_isr(Property::WeakIsr, s)
+}
+
+// Strong ISR: each presuming replica and each member of the quorum's ISR hold the same records below that replica's high
+// watermark. Answers as weak ISR does.
+pub fn strong_isr(s: State) -> IsrAnswer
+    ensures { λ r. ⌜ r ≡ strongIsr s ⌝ }
+{
+    ask_isr(Property::StrongIsr, s)
+}
+
+// The smallest accepted action of a kind, by (a, b, e); 1, 2 or 26 where there is none. It is looked for on the tidy state,
+// as `act` judges an action.
+pub fn offer(s: State, kind: u8) -> OfferAnswer
+    ensures { λ r. ⌜ r ≡ offer s kind ⌝ }
+{
+    let broken = s.state_refusal();
+    if broken != ACCEPTED {
+        return search::refused(broken);
+    }
+    if 8 < kind {
+        return search::refused(UNKNOWN_KIND);
+    }
+    let t = s.tidy();
+    let c = t.limits;
+    let bounds = search::operand_bounds(c, kind);
+    search::offer_within(t, kind, bounds)
+}
