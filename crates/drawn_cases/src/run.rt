@@ -1,16 +1,13 @@
 // One run: a drawn configuration, and 100 drawn actions from its fresh state on.
+use crate::asked;
+use crate::asked::Asked;
 use crate::choose;
 use crate::digest;
 use crate::draw;
+use crate::print::number;
 use cluster::Limits;
 use cluster::State;
 use libc::STDOUT_FILENO;
-
-// A number after a space.
-fn number(v: u64) {
-    io::write_all(STDOUT_FILENO, b" ");
-    io::print_decimal(STDOUT_FILENO, v);
-}
 
 // The numbers of a configuration.
 fn limits(c: Limits) {
@@ -20,14 +17,28 @@ fn limits(c: Limits) {
     number(c.max_leader_epoch as u64);
 }
 
-// How far a run has come: its seed, its state and its digest.
+// Prints what was asked.
+fn counts(a: Asked) {
+    io::write_all(STDOUT_FILENO, b" weak");
+    number(a.weak);
+    io::write_all(STDOUT_FILENO, b" strong");
+    number(a.strong);
+    io::write_all(STDOUT_FILENO, b" none");
+    number(a.none);
+    io::write_all(STDOUT_FILENO, b" asked");
+    number(a.digest);
+}
+
+// How far a run has come: its seed, its state, the digest of its states and what was asked of them.
 pub struct Progress {
     pub seed: u64,
     pub state: State,
     pub digest: u64,
+    pub asked: Asked,
 }
 
-// Takes one drawn action, prints its number, and answers how far the run has come then.
+// Takes one drawn action, prints its number, asks the questions about the state that it was taken on, and answers how far
+// the run has come then.
 fn turn(run: Progress) -> Progress {
     let k = draw::next(run.seed);
     let a = draw::next(k);
@@ -42,15 +53,18 @@ fn turn(run: Progress) -> Progress {
         draw::digit(b),
         draw::digit(e),
     );
-    let o = choose::damaged(s, draw::digit(x)).act(action);
+    let d = choose::damaged(s, draw::digit(x));
+    let o = d.act(action);
     number(o.refusal as u64);
     let t = o.state;
+    let before = run.asked;
     // A state that breaks a rule is left, and the run goes on from the one before.
     let next = if o.refusal == 1 { s } else { t };
     Progress {
         seed: x,
         state: next,
         digest: digest::state(run.digest, t),
+        asked: asked::ask(before, d),
     }
 }
 
@@ -68,10 +82,17 @@ pub(crate) fn run(seed: u64) -> u64 {
     );
     let start = State::fresh(c);
     let s = start.state;
+    let none = Asked {
+        weak: 0,
+        strong: 0,
+        none: 0,
+        digest: 0,
+    };
     let mut run = Progress {
         seed: x,
         state: s,
         digest: 0,
+        asked: none,
     };
     io::write_all(STDOUT_FILENO, b"limits");
     limits(c);
@@ -83,6 +104,8 @@ pub(crate) fn run(seed: u64) -> u64 {
     }
     io::write_all(STDOUT_FILENO, b" digest");
     number(run.digest);
+    let a = run.asked;
+    counts(a);
     io::write_all(STDOUT_FILENO, b"\n");
     run.seed
 }

@@ -1,8 +1,8 @@
 use Prim.Native.Nat.{_≤_, _-_}
 use native.Mathlib.Omega.{arith}
 use borrow.Author.Needs.{needs}
-use Rattle.action_cases.proofs.digest.replica.Statement.{statement}
-use Rattle.action_cases.proofs.digest.replica.Tie as tie
+use Rattle.drawn_cases.proofs.digest.replica.Statement.{statement}
+use Rattle.drawn_cases.proofs.digest.replica.Tie as tie
 
 abbrev Inv-loop : tie.InvT-loop
 Inv-loop h p a d₀ x₀ d x = x ≤ 16

@@ -6,7 +6,7 @@ use replica::Record;
 use replica::Replica;
 
 // The digest with one number more.
-fn number(h: u64, v: u8) -> u64 {
+pub(crate) fn number(h: u64, v: u8) -> u64 {
     (h % 65521 * 31 + v as u64) % 65521
 }
 

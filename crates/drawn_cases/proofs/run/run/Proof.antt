@@ -1,8 +1,8 @@
 use Prim.Native.Nat.{_≤_, _-_}
 use native.Mathlib.Omega.{arith}
 use borrow.Author.Needs.{needs}
-use Rattle.action_cases.proofs.run.run.Statement.{statement}
-use Rattle.action_cases.proofs.run.run.Tie as tie
+use Rattle.drawn_cases.proofs.run.run.Statement.{statement}
+use Rattle.drawn_cases.proofs.run.run.Tie as tie
 
 abbrev Inv-loop : tie.InvT-loop
 Inv-loop seed r l m x run₀ n₀ t13 t14 run n = n ≤ 100
@@ -79,6 +79,9 @@ write-all-requires-3 c κs = search needs
 number-requires : tie.Need-number-requires Inv-loop μ-loop
 number-requires c κs = search needs
 
+counts-requires : tie.Need-counts-requires Inv-loop μ-loop
+counts-requires c κs = search needs
+
 slice-aggregate-write-all-4 : tie.Need-slice-aggregate-write-all-4 Inv-loop μ-loop
 slice-aggregate-write-all-4 c = search needs
 
@@ -117,6 +120,7 @@ run-spec =
     slice-aggregate-write-all-3
     write-all-requires-3
     number-requires
+    counts-requires
     slice-aggregate-write-all-4
     write-all-requires-4
     returns)

@@ -1,26 +1,26 @@
 use Prim.Native.Nat.{_≤_, _-_}
 use native.Mathlib.Omega.{arith}
 use borrow.Author.Needs.{needs}
-use Rattle.action_cases.proofs.digest.requests.Statement.{statement}
-use Rattle.action_cases.proofs.digest.requests.Tie as tie
+use Rattle.drawn_cases.proofs.digest.replicas.Statement.{statement}
+use Rattle.drawn_cases.proofs.digest.replicas.Tie as tie
 
 abbrev Inv-loop : tie.InvT-loop
-Inv-loop h s d₀ i₀ d i = i ≤ 16
+Inv-loop h s d₀ i₀ d i = i ≤ 5
 
 abbrev μ-loop : tie.MeasureT-loop
-μ-loop h s d₀ i₀ d i = 16 - i
+μ-loop h s d₀ i₀ d i = 5 - i
 
 loop-holds : tie.Need-loop-holds Inv-loop μ-loop
 loop-holds c = omega arith
 
-mul-q : tie.Need-mul-q Inv-loop μ-loop
-mul-q c = search needs
+mul-p : tie.Need-mul-p Inv-loop μ-loop
+mul-p c = search needs
 
-element-copy-out-q : tie.Need-element-copy-out-q Inv-loop μ-loop
-element-copy-out-q c = search needs
+element-copy-out-p : tie.Need-element-copy-out-p Inv-loop μ-loop
+element-copy-out-p c = search needs
 
-request-requires : tie.Need-request-requires Inv-loop μ-loop
-request-requires c κs = search needs
+replica-requires : tie.Need-replica-requires Inv-loop μ-loop
+replica-requires c κs = search needs
 
 add-i : tie.Need-add-i Inv-loop μ-loop
 add-i c = search needs
@@ -34,16 +34,16 @@ loop-again c = omega arith
 returns : tie.Need-returns Inv-loop μ-loop
 returns c = search needs
 
-pub requests-spec : {M : Type 1} → statement M
-requests-spec =
+pub replicas-spec : {M : Type 1} → statement M
+replicas-spec =
     tie.close
     (tie.spec
     Inv-loop
     μ-loop
     loop-holds
-    mul-q
-    element-copy-out-q
-    request-requires
+    mul-p
+    element-copy-out-p
+    replica-requires
     add-i
     loop-less
     loop-again

@@ -135,14 +135,23 @@ pub(crate) fn action(s: State, k: u8, a: u8, b: u8, e: u8) -> Action {
     }
 }
 
-// The state with a part of its unused room filled, where that part is unused, or now and then with another hw that the
-// rules allow, or with a rule broken.
+// The state with a part of its unused room filled, where that part is unused, or now and then with another hw, ISR or
+// record that the rules allow, or with a rule broken.
 pub(crate) fn damaged(s: State, digit: u8) -> State {
     if digit < 30 {
         return filled(s, digit);
     }
     if digit < 34 {
         return other_hw(s, digit);
+    }
+    if digit < 38 {
+        return other_isr(s, digit);
+    }
+    if digit < 44 {
+        return full_hw(s, digit);
+    }
+    if digit < 56 {
+        return other_record(s, digit);
     }
     broken(s, digit)
 }
@@ -194,6 +203,52 @@ fn other_hw(s: State, digit: u8) -> State {
     }
     t.replicas[0] = p;
     t.replicas[1] = q;
+    t
+}
+
+// Replica 0, or 1, alone in its own ISR (the byte 1, or 2), where it presumes; the quorum's ISR stays.
+fn other_isr(s: State, digit: u8) -> State {
+    let mut t = s;
+    let i = digit % 2;
+    let mut p = s.replicas[i as usize];
+    let l = p.leader;
+    if l.names(i) {
+        p.isr = i + 1;
+    }
+    t.replicas[i as usize] = p;
+    t
+}
+
+// The hw of one replica at the end of its log.
+fn full_hw(s: State, digit: u8) -> State {
+    let mut t = s;
+    let j = (digit % 5) as usize;
+    let mut p = s.replicas[j];
+    p.hw = p.end;
+    t.replicas[j] = p;
+    t
+}
+
+// The first record of one replica, for digits from 48 on the last, with the next id and the same epoch, where there is one
+// and an id is left.
+fn other_record(s: State, digit: u8) -> State {
+    let mut t = s;
+    let c = s.limits;
+    let j = (digit % 5) as usize;
+    let mut p = s.replicas[j];
+    if s.next_record_id < c.max_records {
+        if p.end > 0 {
+            let x = if digit < 48 { 0 } else { p.end - 1 };
+            let y = (x % 16) as usize;
+            let r = p.log[y];
+            p.log[y] = Record {
+                id: s.next_record_id,
+                epoch: r.epoch,
+            };
+            t.next_record_id = s.next_record_id + 1;
+        }
+    }
+    t.replicas[j] = p;
     t
 }
 
