@@ -42,7 +42,8 @@ pub struct Bounds {
     pub e: u8,
 }
 
-// What a property answers on a state that is known to meet the rules: they are not tested. The caller shows them.
+// What a property answers on a state that is known to meet the rules: they are not tested. The caller shows them. The answer
+// is that of `weak_isr` or `strong_isr`.
 pub fn check_isr(property: Property, s: State) -> IsrAnswer
     requires { ⌜ rules s ≡ true ⌝ }
     ensures { λ r. ⌜ r ≡ checkIsr property s ⌝ }
