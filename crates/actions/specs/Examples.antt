@@ -20,29 +20,29 @@ use Rattle.cluster.specs.State.{withReplica, controllerUpdateIsr, tidy}
 use Rattle.cluster.specs.Rules.{between, inRange, rule1, leaderAndIsrInRange, replicaInRange, rule2, quorumMatchesRequest, rule3, rule4, replicaMatchesRequest, replicaMeetsS5, rule5, rule6, agreesWithAll, rule7, rules}
 use Rattle.cluster.specs.Fresh.{freshState, fresh}
 use Rattle.cluster.specs.Actions.{replicaPresumesLeadership, replicaIsFollowing, epochsUsedUp, requestMissing, epochNotAbove, controllerShrinkIsrRefusal, shrinkBy, controllerShrinkIsr, controllerElectLeaderRefusal, controllerElectLeader, leaderRefusal, becomeLeaderRefusal, leadBy, becomeLeader, becomeFollowerRefusal, becomeFollower, becomeFollowerAndTruncateToHw, memberHasHw, leaderIncHighWatermarkRefusal, followerReplicateRefusal}
-use Rattle.cluster.specs.Act.{kindOf, uses, operandFits, operandsFit, tableRefusal, tableEffect, actionRefusal, effect, answerBy, refusal, act}
+use Rattle.cluster.specs.Act.{kindOf, actionOf, uses, operandBound, operandBounds, operandsFit, tableRefusal, tableEffect, actionRefusal, effect, answerBy, refusal, act}
 
 -- ---- the words of the examples
 abbrev pub limits : ℕ → ℕ → ℕ → ℕ → Limits
 limits R L M X = record { «replica_count» = R; «log_size» = L; «max_records» = M; «max_leader_epoch» = X }
 
 abbrev pub shrink : ℕ → Action
-shrink a = record { kind = 0; a = a; b = 0; e = 0 }
+shrink a = actionOf 0 a 0 0
 
 abbrev pub elect : ℕ → Action
-elect a = record { kind = 1; a = a; b = 0; e = 0 }
+elect a = actionOf 1 a 0 0
 
 abbrev pub leader : ℕ → Action
-leader e = record { kind = 2; a = 0; b = 0; e = e }
+leader e = actionOf 2 0 0 e
 
 abbrev pub follower : ℕ → ℕ → Action
-follower a e = record { kind = 3; a = a; b = 0; e = e }
+follower a e = actionOf 3 a 0 e
 
 abbrev pub advance : ℕ → Action
-advance a = record { kind = 7; a = a; b = 0; e = 0 }
+advance a = actionOf 7 a 0 0
 
 abbrev pub replicate : ℕ → ℕ → Action
-replicate a b = record { kind = 8; a = a; b = b; e = 0 }
+replicate a b = actionOf 8 a b 0
 
 -- the number of the answer o, then that of each action, taken on the state that the answer before it handed back
 unfoldable pub numbersFrom : Outcome → List Action → List ℕ
@@ -81,7 +81,7 @@ pub record Examples5To9 : Type 0 where
 
 pub examples-5-to-9 : Examples5To9
 unfolding numbers numbersFrom quorumAfter lastFrom fresh freshState act refusal answerBy effect actionRefusal
-    tableEffect tableRefusal operandsFit operandFits uses kindOf followerReplicateRefusal
+    tableEffect tableRefusal operandsFit operandBounds operandBound uses kindOf followerReplicateRefusal
     leaderIncHighWatermarkRefusal memberHasHw becomeFollowerAndTruncateToHw becomeFollower becomeFollowerRefusal
     becomeLeader leadBy becomeLeaderRefusal leaderRefusal controllerElectLeader controllerElectLeaderRefusal
     controllerShrinkIsr shrinkBy controllerShrinkIsrRefusal epochNotAbove requestMissing epochsUsedUp

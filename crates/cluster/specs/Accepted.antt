@@ -3,6 +3,7 @@ use Prim.Native.Nat.{ℕ, _+_, _<_}
 use mathlib.Core.Path.{_≡_, sym}
 use mathlib.Core.Bool.{Bool, true, false, not}
 use native.Mathlib.Omega.{arith}
+use lib.Dec.{ltb}
 use borrow.Author.Tests.{ltb-true, leb-false, eqb-false, not-false}
 use Rattle.logic.specs.Tests.{every-at, all-at, and-right, implied, true-false}
 use Rattle.logic.specs.Refuse.{refuse-zero}
@@ -18,7 +19,7 @@ use Rattle.cluster.specs.State.{replicaCount, logSize, maxRecords, maxLe
 use Rattle.cluster.specs.Predicates.{S1}
 use Rattle.cluster.specs.Actions.{replicaPresumesLeadership, replicaIsFollowing, isTrueLeaderTests, isTrueLeader, epochsUsedUp, requestMissing, controllerShrinkIsrRefusal, controllerElectLeaderRefusal, leaderRefusal, becomeLeaderRefusal, becomeFollowerRefusal, leaderWriteRefusal, leaderShrinkIsrRefusal, leaderExpandIsrRefusal, memberHasHw, leaderIncHighWatermarkRefusal, followerReplicateRefusal}
 use Rattle.cluster.specs.declared.Kind.{Kind}
-use Rattle.cluster.specs.Act.{kindOf, uses, operandFits, operandTests, operandsFit, tableRefusal, actionRefusal}
+use Rattle.cluster.specs.Act.{kindOf, uses, operandBound, operandBounds, operandTests, operandsFit, tableRefusal, actionRefusal}
 
 -- ---- operands
 -- the replicas that a kind uses are below R
@@ -26,14 +27,14 @@ pub record Operands (c : Limits) (kind : Kind) (a b : ℕ) : Type 0 where
   pub a-below : uses kind .a ≡ true → a < replicaCount c
   pub b-below : uses kind .b ≡ true → b < replicaCount c
 
-operand-below : (used : Bool) (bound n : ℕ) → operandFits used bound n ≡ true → used ≡ true → n < bound
-unfolding operandFits
+operand-below : (used : Bool) (bound n : ℕ) → ltb n (operandBound used bound) ≡ true → used ≡ true → n < bound
+unfolding operandBound
 operand-below true bound n h u = ltb-true n bound h
 operand-below false bound n h u = absurd (true-false (sym u))
 
 pub operands-of : (c : Limits) (action : Action) → operandsFit c action ≡ true → (kind : Kind) → kindOf (action .kind) ≡ kind
     → Operands c kind (action .a) (action .b)
-unfolding operandsFit
+unfolding operandsFit operandBounds
 operands-of c action h kind e =
     let t = every-at (operandTests c action) h in
     rw (← e)

@@ -2,7 +2,7 @@
 use Prim.Native.Nat.{ℕ, zero, suc, _+_}
 use mathlib.Core.Bool.{Bool, true, false, not, cond}
 use mathlib.Core.List.{List, [], _∷_}
-use lib.Dec.{eqb, ltb}
+use lib.Dec.{ltb}
 use lib.ListN.{getD}
 use Rattle.logic.specs.Tests.{every}
 use Rattle.logic.specs.Refuse.{refuse}
@@ -12,6 +12,7 @@ use Rattle.cluster.specs.declared.State.{State}
 use Rattle.cluster.specs.declared.Outcome.{Outcome}
 use Rattle.cluster.specs.declared.Action.{Action}
 use Rattle.cluster.specs.declared.Uses.{Uses}
+use Rattle.cluster.specs.declared.Bounds.{Bounds}
 use Rattle.cluster.specs.declared.Kind.{Kind}
 use Rattle.cluster.specs.declared.Kind.the-variants.{ControllerShrinkIsr, ControllerElectLeader, BecomeLeader, BecomeFollower, LeaderWrite, LeaderShrinkIsr, LeaderExpandIsr, LeaderIncHighWatermark, FollowerReplicate, Unknown}
 use Rattle.cluster.specs.State.{replicaCount, maxLeaderEpoch, tidy}
@@ -37,6 +38,10 @@ kinds =
 unfoldable pub kindOf : ℕ → Kind
 kindOf n = getD kinds n Unknown
 
+-- the action of a kind with these operands
+abbrev pub actionOf : ℕ → ℕ → ℕ → ℕ → Action
+actionOf kind a b e = record { kind = kind; a = a; b = b; e = e }
+
 -- ---- the operands that a kind uses: column "operands" of the table
 abbrev pub useOf : Bool → Bool → Bool → Uses
 useOf a b e = record { a = a; b = b; e = e }
@@ -53,15 +58,25 @@ uses LeaderIncHighWatermark = useOf true false false
 uses FollowerReplicate = useOf true true false
 uses Unknown = useOf false false false
 
--- a used operand is below its bound, an unused one is 0
-unfoldable pub operandFits : Bool → ℕ → ℕ → Bool
-operandFits used bound n = cond used (ltb n bound) (eqb n 0)
+-- ---- the numbers that an operand may be: those below its bound
+-- a used operand has a bound of its own, an unused one is 0, the only number below 1
+unfoldable pub operandBound : Bool → ℕ → ℕ
+operandBound used bound = cond used bound 1
+
+-- a used replica is below R, a used epoch at most X
+unfoldable pub operandBounds : Limits → Kind → Bounds
+operandBounds c kind =
+    record {
+      a = operandBound (uses kind .a) (replicaCount c);
+      b = operandBound (uses kind .b) (replicaCount c);
+      e = operandBound (uses kind .e) (maxLeaderEpoch c + 1);
+    }
 
 abbrev pub operandTests : Limits → Action → List Bool
 operandTests c action =
-    operandFits (uses (kindOf (action .kind)) .a) (replicaCount c) (action .a)
-    ∷ operandFits (uses (kindOf (action .kind)) .b) (replicaCount c) (action .b)
-    ∷ operandFits (uses (kindOf (action .kind)) .e) (maxLeaderEpoch c + 1) (action .e)
+    ltb (action .a) (operandBounds c (kindOf (action .kind)) .a)
+    ∷ ltb (action .b) (operandBounds c (kindOf (action .kind)) .b)
+    ∷ ltb (action .e) (operandBounds c (kindOf (action .kind)) .e)
     ∷ []
 
 unfoldable pub operandsFit : Limits → Action → Bool

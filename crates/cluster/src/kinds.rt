@@ -2,8 +2,9 @@
 ghost use mathlib.Core.Path.{_≡_};
 ghost use Prim.Native.Nat.{_≤_};
 ghost use Rattle.cluster.specs.State.{maxLeaderEpoch};
-ghost use Rattle.cluster.specs.Act.{kindOf, useOf, uses, operandFits, operandsFit};
+ghost use Rattle.cluster.specs.Act.{kindOf, useOf, uses, operandBound, operandBounds, operandsFit};
 use crate::Action;
+use crate::Bounds;
 use crate::Kind;
 use crate::Limits;
 use crate::Uses;
@@ -28,7 +29,7 @@ impl Kind {
     }
 
     // The operands that the kind uses.
-    pub fn uses(self) -> Uses
+    fn uses(self) -> Uses
         ensures { λ r. ⌜ r ≡ uses self ⌝ }
     {
         match self {
@@ -44,6 +45,19 @@ impl Kind {
             Kind::Unknown => Uses::of(false, false, false),
         }
     }
+
+    // The bounds of the kind's operands. The caller shows that X is in range.
+    pub fn operand_bounds(self, limits: Limits) -> Bounds
+        requires { ⌜ maxLeaderEpoch limits ≤ 15 ⌝ }
+        ensures { λ r. ⌜ r ≡ operandBounds limits self ⌝ }
+    {
+        let uses = self.uses();
+        Bounds {
+            a: operand_bound(uses.a, limits.replica_count),
+            b: operand_bound(uses.b, limits.replica_count),
+            e: operand_bound(uses.e, limits.max_leader_epoch + 1),
+        }
+    }
 }
 
 impl Uses {
@@ -55,14 +69,14 @@ impl Uses {
     }
 }
 
-// Whether a used operand is below its bound, or an unused one 0.
-fn operand_fits(used: bool, bound: u8, n: u8) -> bool
-    ensures { λ r. ⌜ r ≡ operandFits used bound n ⌝ }
+// The bound of an operand: its own where it is used, and 1, so that it is 0, where it is not.
+fn operand_bound(used: bool, bound: u8) -> u8
+    ensures { λ r. ⌜ r ≡ operandBound used bound ⌝ }
 {
     if used {
-        return n < bound;
+        return bound;
     }
-    n == 0
+    1
 }
 
 // Whether the operands of an action fit. The caller shows that X is in range.
@@ -70,12 +84,12 @@ pub(crate) fn operands_fit(limits: Limits, action: Action) -> bool
     requires { ⌜ maxLeaderEpoch limits ≤ 15 ⌝ }
     ensures { λ r. ⌜ r ≡ operandsFit limits action ⌝ }
 {
-    let uses = Kind::of(action.kind).uses();
-    if !operand_fits(uses.a, limits.replica_count, action.a) {
+    let bounds = Kind::of(action.kind).operand_bounds(limits);
+    if bounds.a <= action.a {
         return false;
     }
-    if !operand_fits(uses.b, limits.replica_count, action.b) {
+    if bounds.b <= action.b {
         return false;
     }
-    operand_fits(uses.e, limits.max_leader_epoch + 1, action.e)
+    action.e < bounds.e
 }

@@ -81,6 +81,13 @@ pub struct Uses {
     pub e: bool,
 }
 
+// The bounds of an action's operands: each is below its own.
+pub struct Bounds {
+    pub a: u8,
+    pub b: u8,
+    pub e: u8,
+}
+
 // A number, 0 for accepted, and the state that goes with it.
 pub struct Outcome {
     pub refusal: u8,

@@ -1,47 +1,28 @@
 -- Offer: "for a state and a kind, the smallest accepted action by (a, b, e), unused operands 0. Refusals: 1, then 2, then
 -- 26 exactly when no operands are accepted." Assumes nothing.
-use Prim.Native.Nat.{ℕ, _+_}
+use Prim.Native.Nat.{ℕ}
 use mathlib.Core.Bool.{Bool, not, cond}
 use mathlib.Core.Option.{Option, none, some}
 use lib.Dec.{eqb, ltb}
 use Rattle.logic.specs.Search.{Triple, firstTriple}
 use Rattle.parts.specs.Refusal.{accepted, brokenState, unknownKind, noOffer}
-use Rattle.cluster.specs.declared.Limits.{Limits}
 use Rattle.cluster.specs.declared.State.{State}
-use Rattle.cluster.specs.declared.Action.{Action}
-use Rattle.cluster.specs.State.{replicaCount, maxLeaderEpoch, tidy}
+use Rattle.cluster.specs.declared.Bounds.{Bounds}
+use Rattle.cluster.specs.State.{tidy}
 use Rattle.cluster.specs.Rules.{rules}
-use Rattle.cluster.specs.Act.{kindOf, uses, actionRefusal}
-use Rattle.questions.specs.declared.Bounds.{Bounds}
+use Rattle.cluster.specs.Act.{kindOf, actionOf, operandBounds, actionRefusal}
 use Rattle.questions.specs.declared.OfferAnswer.{OfferAnswer}
 
--- ---- which operands are tried
--- a used operand is tried below its bound, an unused one is 0
-unfoldable pub operandBound : Bool → ℕ → ℕ
-operandBound used bound = cond used bound 1
-
-abbrev boundsOf : ℕ → ℕ → ℕ → Bounds
-boundsOf a b e = record { a = a; b = b; e = e }
-
--- replicas below R, epochs up to X
-unfoldable pub operandBounds : Limits → ℕ → Bounds
-operandBounds c kind =
-    boundsOf (operandBound (uses (kindOf kind) .a) (replicaCount c))
-    (operandBound (uses (kindOf kind) .b) (replicaCount c))
-    (operandBound (uses (kindOf kind) .e) (maxLeaderEpoch c + 1))
-
+-- ---- the smallest that is accepted
 -- the bound of e, whatever a and b are
 abbrev pub epochBound : Bounds → ℕ → ℕ → ℕ
 epochBound bounds a b = bounds .e
 
--- ---- the smallest that is accepted
-abbrev pub actionOf : ℕ → ℕ → ℕ → ℕ → Action
-actionOf kind a b e = record { kind = kind; a = a; b = b; e = e }
-
+-- nothing refuses the action of this kind with these operands, on a state that meets the rules and is tidy
 unfoldable pub isAccepted : State → ℕ → ℕ → ℕ → ℕ → Bool
 isAccepted s kind a b e = eqb (actionRefusal s (actionOf kind a b e)) accepted
 
--- "the smallest accepted action by (a, b, e)", of those below the bounds
+-- "the smallest accepted action by (a, b, e)", of those whose operands are below these bounds
 unfoldable pub smallestAccepted : State → ℕ → Bounds → Option Triple
 smallestAccepted s kind bounds = firstTriple (bounds .a) (bounds .b) (epochBound bounds) (isAccepted s kind)
 
@@ -56,7 +37,7 @@ offerOf (some t) = offerAnswer accepted (t .first) (t .second) (t .third)
 
 -- what a state that meets the rules and is tidy offers of a kind from 0 to 8
 unfoldable pub findOffer : State → ℕ → OfferAnswer
-findOffer s kind = offerOf (smallestAccepted s kind (operandBounds (s .limits) kind))
+findOffer s kind = offerOf (smallestAccepted s kind (operandBounds (s .limits) (kindOf kind)))
 
 -- "1, then 2", with zeros beside them: by whether the state meets the rules, and by its tidy form
 abbrev pub offerBy : Bool → State → ℕ → OfferAnswer

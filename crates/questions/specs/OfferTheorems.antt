@@ -7,7 +7,6 @@ use mathlib.Core.Logic.{_↔_}
 use mathlib.Core.Option.{Option, none, some}
 use native.Mathlib.Omega.{arith}
 use lib.Dec.{ltb}
-use lib.ListN.{getD}
 use borrow.Author.Tests.{ltb-true, ltb-false, eqb-true, eq-eqb, not-false}
 use Rattle.logic.specs.Tests.{every-at, true-false}
 use Rattle.logic.specs.Refuse.{refuse-no, refuse-zero}
@@ -15,17 +14,17 @@ use Rattle.logic.specs.Search.{Triple, triple, Before, first-triple-none, first
 use Rattle.parts.specs.Refusal.{accepted, brokenState, unknownKind, noOffer}
 use Rattle.cluster.specs.declared.State.{State}
 use Rattle.cluster.specs.declared.Action.{Action}
+use Rattle.cluster.specs.declared.Bounds.{Bounds}
 use Rattle.cluster.specs.State.{replicaCount, maxLeaderEpoch, Same, tidy}
 use Rattle.cluster.specs.Rules.{rules}
 use Rattle.cluster.specs.Predicates.{rules-iff}
 use Rattle.cluster.specs.Equality.{same-iff-tidy}
 use Rattle.cluster.specs.Unused.{rules-same, rules-tidy}
-use Rattle.cluster.specs.Act.{kindOf, uses, operandFits, operandTests, operandsFit, actionRefusal, refusal, act}
+use Rattle.cluster.specs.Act.{kindOf, actionOf, uses, operandBound, operandBounds, operandTests, operandsFit, actionRefusal, refusal, act}
 use Rattle.cluster.specs.Accepted.{action-accepted}
 use Rattle.actions.specs.Answers.{act-number}
-use Rattle.questions.specs.declared.Bounds.{Bounds}
 use Rattle.questions.specs.declared.OfferAnswer.{OfferAnswer}
-use Rattle.questions.specs.Offer.{operandBound, operandBounds, epochBound, actionOf, isAccepted, smallestAccepted, offerAnswer, offerOf, findOffer, offerBy, offer}
+use Rattle.questions.specs.Offer.{epochBound, isAccepted, smallestAccepted, offerAnswer, offerOf, findOffer, offerBy, offer}
 
 -- the action of a kind with these operands is accepted
 abbrev pub Accepted : State → ℕ → Triple → Type 0
@@ -40,28 +39,22 @@ pub record Offered (s : State) (kind : ℕ) (t : Triple) : Type 0 where
   pub unused-e : uses (kindOf kind) .e ≡ false → t .third ≡ 0
 
 -- ---- operands
--- an operand that fits is below the bound of those tried
-operand-tried : (used : Bool) (bound n : ℕ) → operandFits used bound n ≡ true → n < operandBound used bound
-unfolding operandFits operandBound
-operand-tried true bound n h = ltb-true n bound h
-operand-tried false bound n h = omega (arith, eqb-true n 0 h)
-
--- below that bound, one that is not used is 0
+-- below its bound, one that is not used is 0
 operand-unused : (used : Bool) (bound n : ℕ) → n < operandBound used bound → used ≡ false → n ≡ 0
 unfolding operandBound
 operand-unused true bound n l u = absurd (true-false u)
 operand-unused false bound n l u = omega arith
 
--- ---- accepted operands are bytes
-operand-byte : (used : Bool) (bound n : ℕ) → bound ≤ 16 → operandFits used bound n ≡ true → n < 256
-unfolding operandFits
-operand-byte true bound n l h = omega (arith, ltb-true n bound h)
-operand-byte false bound n l h = omega (arith, eqb-true n 0 h)
+-- and every one is a byte
+operand-byte : (used : Bool) (bound n : ℕ) → bound ≤ 16 → n < operandBound used bound → n < 256
+unfolding operandBound
+operand-byte true bound n l h = omega arith
+operand-byte false bound n l h = omega arith
 
 -- ---- the search, for a state that meets the rules
 module _ (s : State) (kind : ℕ) (met : rules s ≡ true) where
   abbrev bounds : Bounds
-  bounds = operandBounds (tidy s .limits) kind
+  bounds = operandBounds (tidy s .limits) (kindOf kind)
 
   -- the action of the kind with these operands
   abbrev actionBy : Triple → Action
@@ -75,28 +68,31 @@ module _ (s : State) (kind : ℕ) (met : rules s ≡ true) where
     (λ r. act-number s (actionBy t) ∙ sym (refuse-no _ _ _ (ap not met)) ∙ r),
   )
 
-  -- the operands of an accepted action fit
-  operands-fit : (t : Triple) → Accepted s kind t → (k : ℕ) → getD (operandTests (tidy s .limits) (actionBy t)) k true ≡ true
+  -- the operands of an accepted action are below their bounds
+  operands-below : (t : Triple) → Accepted s kind t → (t .first < bounds .a) × (t .second < bounds .b) × (t .third < bounds .e)
   unfolding operandsFit
-  operands-fit t a = every-at (operandTests (tidy s .limits) (actionBy t)) (action-accepted (tidy s) (actionBy t) (accepted-iff t .0 a) .0)
+  operands-below t a =
+      let p = every-at (operandTests (tidy s .limits) (actionBy t)) (action-accepted (tidy s) (actionBy t) (accepted-iff t .0 a) .0) in
+      (ltb-true _ _ (p 0), ltb-true _ _ (p 1), ltb-true _ _ (p 2))
 
   -- so they are bytes
   fitting-bytes : (t : Triple) → Accepted s kind t → (t .first < 256) × (t .second < 256) × (t .third < 256)
+  unfolding operandBounds
   fitting-bytes t a =
-      let p = operands-fit t a in
+      let p = operands-below t a in
       let c = rules-iff (tidy s) .0 (rules-tidy s ∙ met) .s1 .ranges in
       let five : replicaCount (tidy s .limits) ≤ 16 = omega (arith, c .replicas) in
       let sixteen : maxLeaderEpoch (tidy s .limits) + 1 ≤ 16 = omega (arith, c .epochs) in
-      (operand-byte _ _ _ five (p 0), operand-byte _ _ _ five (p 1), operand-byte _ _ _ sixteen (p 2))
+      (operand-byte _ _ _ five (p .0), operand-byte _ _ _ five (p .1), operand-byte _ _ _ sixteen (p .2))
 
   -- every accepted action is tried
   not-missed : (t : Triple)
       → (t .first < bounds .a → t .second < bounds .b → t .third < bounds .e → isAccepted (tidy s) kind (t .first) (t .second) (t .third) ≡ false)
       → Accepted s kind t → ⊥
-  unfolding operandBounds isAccepted
+  unfolding isAccepted
   not-missed t f a =
-      let p = operands-fit t a in
-      true-false (sym (eq-eqb _ _ (accepted-iff t .0 a)) ∙ f (operand-tried _ _ _ (p 0)) (operand-tried _ _ _ (p 1)) (operand-tried _ _ _ (p 2)))
+      let p = operands-below t a in
+      true-false (sym (eq-eqb _ _ (accepted-iff t .0 a)) ∙ f (p .0) (p .1) (p .2))
 
   -- where the search finds nothing, none is accepted
   none-accepted : smallestAccepted (tidy s) kind bounds ≡ none → (t : Triple) → Accepted s kind t → ⊥
@@ -133,7 +129,7 @@ module _ (s : State) (kind : ℕ) where
     found : rules s ≡ true → kind ≤ 8 → (t : Triple) → Offered s kind t → Case (offerAnswer accepted (t .first) (t .second) (t .third))
 
   case-found : rules s ≡ true → kind ≤ 8 → (o : Option Triple)
-      → smallestAccepted (tidy s) kind (operandBounds (tidy s .limits) kind) ≡ o → Case (offerOf o)
+      → smallestAccepted (tidy s) kind (operandBounds (tidy s .limits) (kindOf kind)) ≡ o → Case (offerOf o)
   unfolding offerOf
   case-found met l none e = nothing met l (none-accepted s kind met e)
   case-found met l (some t) e = found met l t (offered-by s kind met t e)

@@ -7,6 +7,7 @@ ghost use mathlib.Core.Bool.{true};
 ghost use Rattle.cluster.specs.Rules.{rules};
 ghost use Rattle.questions.specs.Isr.{checkIsr, askIsr, weakIsr, strongIsr};
 ghost use Rattle.questions.specs.Offer.{offer};
+use cluster::Kind;
 use cluster::State;
 use parts::refusal::ACCEPTED;
 use parts::refusal::UNKNOWN_KIND;
@@ -30,13 +31,6 @@ pub struct IsrAnswer {
 // An offer: a number, 0 for accepted, and the operands of an action, which are 0 beside a refusal.
 pub struct OfferAnswer {
     pub refusal: u8,
-    pub a: u8,
-    pub b: u8,
-    pub e: u8,
-}
-
-// The bounds below which operands are tried.
-pub struct Bounds {
     pub a: u8,
     pub b: u8,
     pub e: u8,
@@ -129,6 +123,6 @@ pub fn offer(s: State, kind: u8) -> OfferAnswer
     }
     let t = s.tidy();
     let c = t.limits;
-    let bounds = search::operand_bounds(c, kind);
+    let bounds = Kind::of(kind).operand_bounds(c);
     search::offer_within(t, kind, bounds)
 }

@@ -1,42 +1,15 @@
 // The search for the smallest accepted action of a kind.
 ghost use mathlib.Core.Path.{_≡_};
 ghost use mathlib.Core.Bool.{true};
-ghost use Prim.Native.Nat.{_≤_};
 ghost use Rattle.logic.specs.Search.{firstThird, firstSecond};
-ghost use Rattle.cluster.specs.State.{maxLeaderEpoch};
 ghost use Rattle.cluster.specs.Rules.{rules};
-ghost use Rattle.questions.specs.Offer.{operandBound, operandBounds, epochBound, isAccepted, smallestAccepted, offerAnswer, offerOf};
-use crate::Bounds;
+ghost use Rattle.questions.specs.Offer.{epochBound, isAccepted, smallestAccepted, offerAnswer, offerOf};
 use crate::OfferAnswer;
 use cluster::Action;
-use cluster::Kind;
-use cluster::Limits;
+use cluster::Bounds;
 use cluster::State;
 use parts::refusal::ACCEPTED;
 use parts::refusal::NO_OFFER;
-
-// The bound below which an operand is tried: only 0 where it is unused.
-fn operand_bound(used: bool, bound: u8) -> u8
-    ensures { λ r. ⌜ r ≡ operandBound used bound ⌝ }
-{
-    if used {
-        return bound;
-    }
-    1
-}
-
-// The bounds of the operands of a kind. The caller shows that X is in range.
-pub(crate) fn operand_bounds(c: Limits, kind: u8) -> Bounds
-    requires { ⌜ maxLeaderEpoch c ≤ 15 ⌝ }
-    ensures { λ r. ⌜ r ≡ operandBounds c kind ⌝ }
-{
-    let u = Kind::of(kind).uses();
-    Bounds {
-        a: operand_bound(u.a, c.replica_count),
-        b: operand_bound(u.b, c.replica_count),
-        e: operand_bound(u.e, c.max_leader_epoch + 1),
-    }
-}
 
 // An answer that offers nothing.
 pub(crate) fn refused(refusal: u8) -> OfferAnswer

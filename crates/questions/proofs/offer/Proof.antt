@@ -3,15 +3,16 @@ use mathlib.Core.Bool.{not, true}
 use mathlib.Core.Path.{_∙_, _≡_, ap, sym}
 use borrow.Author.Needs.{needs}
 use borrow.Author.Tests.{le-ltb, lt-ltb}
+use Rattle.cluster.specs.Act.{operandBounds}
 use Rattle.cluster.specs.ActLaws.{epochs-small}
 use Rattle.cluster.specs.RuleLaws.{refusal-broken, refusal-met}
 use Rattle.cluster.specs.Rules.{rules}
 use Rattle.cluster.specs.State.{tidy}
 use Rattle.cluster.specs.Unused.{rules-tidy}
+use Rattle.cluster.specs.declared.Bounds.{Bounds}
 use Rattle.cluster.specs.declared.State.{State}
 use Rattle.logic.specs.Table.{cond-false, cond-true}
 use Rattle.questions.specs.Offer.{findOffer, offer, offerAnswer, offerOf, smallestAccepted}
-use Rattle.questions.specs.declared.Bounds.{Bounds}
 use Rattle.questions.proofs.offer.Statement.{statement}
 use Rattle.questions.proofs.offer.Tie as tie
 
@@ -41,23 +42,28 @@ returns-2 c = c .refused2 .ensures ∙ sym (cond-true _ _ _ (lt-ltb _ _ (c .befo
 tidy-requires : tie.Need-tidy-requires
 tidy-requires c κs = search needs
 
+of-requires : tie.Need-of-requires
+of-requires c κs = search needs
+
 operand-bounds-requires : tie.Need-operand-bounds-requires
 operand-bounds-requires c κs =
-    let s = c .before .before .before .before .before .args .s in
-    rw (c .before .tidy .ensures) (epochs-small (tidy s) (rules-tidy s ∙ met (c .before .before .before)))
+    let s = c .before .before .before .before .before .before .args .s in
+    rw (c .before .before .tidy .ensures) (epochs-small (tidy s) (rules-tidy s ∙ met (c .before .before .before .before)))
 
 offer-within-requires : tie.Need-offer-within-requires
-offer-within-requires c κs = rw (c .before .before .tidy .ensures) (rules-tidy (c .before .before .before .before .before .before .args .s) ∙ met (c .before .before .before .before))
+offer-within-requires c κs = rw (c .before .before .before .tidy .ensures) (rules-tidy (c .before .before .before .before .before .before .before .args .s) ∙ met (c .before .before .before .before .before))
 
 returns-3 : tie.Need-returns-3
 unfolding offer findOffer
 returns-3 c =
-    let kind = c .before .before .before .before .before .before .before .args .kind in
+    let tidy = c .before .before .before .before .tidy in
+    let kind = c .before .before .before .before .before .before .before .before .args .kind in
+    let t = tidy .result in
     c .offer-within .ensures
-    ∙ ap (λ (n : Bounds). offerOf (smallestAccepted (c .before .before .before .tidy .result) kind n)) (c .before .operand-bounds .ensures)
-    ∙ ap (λ (t : State). findOffer t kind) (c .before .before .before .tidy .ensures)
-    ∙ sym (cond-false _ _ _ (le-ltb _ _ (c .before .before .before .before .if2 .left)))
-    ∙ sym (cond-false _ _ _ (ap not (met (c .before .before .before .before .before))))
+    ∙ ap (λ (n : Bounds). offerOf (smallestAccepted t kind n)) (c .before .operand-bounds .ensures ∙ ap (operandBounds (t .limits)) (c .before .before .of .ensures))
+    ∙ ap (λ (u : State). findOffer u kind) (tidy .ensures)
+    ∙ sym (cond-false _ _ _ (le-ltb _ _ (c .before .before .before .before .before .if2 .left)))
+    ∙ sym (cond-false _ _ _ (ap not (met (c .before .before .before .before .before .before))))
 
 pub offer-spec : {M : Type 1} → statement M
 offer-spec =
@@ -69,6 +75,7 @@ offer-spec =
     refused-requires-2
     returns-2
     tidy-requires
+    of-requires
     operand-bounds-requires
     offer-within-requires
     returns-3)

@@ -1,8 +1,8 @@
 use mathlib.Core.Path.{sym}
+use Rattle.cluster.specs.Act.{operandBound}
 use Rattle.logic.specs.Table.{cond-false, cond-true}
-use Rattle.questions.specs.Offer.{operandBound}
-use Rattle.questions.proofs.search.operand_bound.Statement.{statement}
-use Rattle.questions.proofs.search.operand_bound.Tie as tie
+use Rattle.cluster.proofs.kinds.operand_bound.Statement.{statement}
+use Rattle.cluster.proofs.kinds.operand_bound.Tie as tie
 
 returns : tie.Need-returns
 unfolding operandBound
