@@ -39,11 +39,11 @@ module _ (c : Limits) (s : State) (d : Sound c s) (leader : Leader) (isr : ℕ) 
   next = controllerUpdateIsr s leader isr
 
   -- the requests sent before stay, and the new one is that of the next epoch
-  request-old : (e : ℕ) → e < nextLeaderEpoch s → requestAt next e ≡ requestAt s e
+  pub request-old : (e : ℕ) → e < nextLeaderEpoch s → requestAt next e ≡ requestAt s e
   unfolding controllerUpdateIsr
   request-old e l = getD-set-other (s .requests) (nextLeaderEpoch s) e request zeroRequest (omega arith)
 
-  request-new : requestAt next (nextLeaderEpoch s) ≡ request
+  pub request-new : requestAt next (nextLeaderEpoch s) ≡ request
   unfolding controllerUpdateIsr
   request-new = getD-set-same (s .requests) (nextLeaderEpoch s) request zeroRequest room
 

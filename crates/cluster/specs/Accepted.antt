@@ -1,9 +1,9 @@
 -- What an accepted action says of its operands and of the state. Assumes nothing.
 use Prim.Native.Nat.{ℕ, _+_, _<_}
-use mathlib.Core.Path.{_≡_, sym}
+use mathlib.Core.Path.{_≡_, refl, sym}
 use mathlib.Core.Bool.{Bool, true, false, not}
+use mathlib.Core.Logic.{_↔_}
 use native.Mathlib.Omega.{arith}
-use lib.Dec.{ltb}
 use borrow.Author.Tests.{ltb-true, leb-false, eqb-false, not-false}
 use Rattle.logic.specs.Tests.{every-at, all-at, and-right, implied, true-false}
 use Rattle.logic.specs.Refuse.{refuse-zero}
@@ -27,10 +27,11 @@ pub record Operands (c : Limits) (kind : Kind) (a b : ℕ) : Type 0 where
   pub a-below : uses kind .a ≡ true → a < replicaCount c
   pub b-below : uses kind .b ≡ true → b < replicaCount c
 
-operand-below : (used : Bool) (bound n : ℕ) → ltb n (operandBound used bound) ≡ true → used ≡ true → n < bound
+-- a number is below the bound of an operand: below its own bound where the operand is used, else 0
+pub operand-iff : (used : Bool) (bound n : ℕ) → n < operandBound used bound ↔ (used ≡ true → n < bound) × (used ≡ false → n ≡ 0)
 unfolding operandBound
-operand-below true bound n h u = ltb-true n bound h
-operand-below false bound n h u = absurd (true-false (sym u))
+operand-iff true bound n = ((λ l. ((λ u. l), (λ u. absurd (true-false u)))), (λ f. f .0 refl))
+operand-iff false bound n = ((λ l. ((λ u. absurd (true-false (sym u))), (λ u. omega arith))), (λ f. let z = f .1 refl in omega arith))
 
 pub operands-of : (c : Limits) (action : Action) → operandsFit c action ≡ true → (kind : Kind) → kindOf (action .kind) ≡ kind
     → Operands c kind (action .a) (action .b)
@@ -39,8 +40,8 @@ operands-of c action h kind e =
     let t = every-at (operandTests c action) h in
     rw (← e)
     (record {
-      a-below = operand-below (uses (kindOf (action .kind)) .a) (replicaCount c) (action .a) (t 0);
-      b-below = operand-below (uses (kindOf (action .kind)) .b) (replicaCount c) (action .b) (t 1);
+      a-below = operand-iff (uses (kindOf (action .kind)) .a) (replicaCount c) (action .a) .0 (ltb-true (action .a) _ (t 0)) .0;
+      b-below = operand-iff (uses (kindOf (action .kind)) .b) (replicaCount c) (action .b) .0 (ltb-true (action .b) _ (t 1)) .0;
     })
 
 -- an accepted action has operands that fit, and the table refuses nothing

@@ -21,7 +21,7 @@ use Rattle.cluster.specs.Predicates.{rules-iff}
 use Rattle.cluster.specs.Equality.{same-iff-tidy}
 use Rattle.cluster.specs.Unused.{rules-same, rules-tidy}
 use Rattle.cluster.specs.Act.{kindOf, actionOf, uses, operandBound, operandBounds, operandTests, operandsFit, actionRefusal, refusal, act}
-use Rattle.cluster.specs.Accepted.{action-accepted}
+use Rattle.cluster.specs.Accepted.{operand-iff, action-accepted}
 use Rattle.actions.specs.Answers.{act-number}
 use Rattle.questions.specs.declared.OfferAnswer.{OfferAnswer}
 use Rattle.questions.specs.Offer.{epochBound, isAccepted, smallestAccepted, offerAnswer, offerOf, findOffer, offerBy, offer}
@@ -39,13 +39,7 @@ pub record Offered (s : State) (kind : ℕ) (t : Triple) : Type 0 where
   pub unused-e : uses (kindOf kind) .e ≡ false → t .third ≡ 0
 
 -- ---- operands
--- below its bound, one that is not used is 0
-operand-unused : (used : Bool) (bound n : ℕ) → n < operandBound used bound → used ≡ false → n ≡ 0
-unfolding operandBound
-operand-unused true bound n l u = absurd (true-false u)
-operand-unused false bound n l u = omega arith
-
--- and every one is a byte
+-- below its bound, each is a byte
 operand-byte : (used : Bool) (bound n : ℕ) → bound ≤ 16 → n < operandBound used bound → n < 256
 unfolding operandBound
 operand-byte true bound n l h = omega arith
@@ -107,9 +101,9 @@ module _ (s : State) (kind : ℕ) (met : rules s ≡ true) where
       record {
         itself = accepted-iff t .1 (eqb-true _ _ (f .passes));
         smallest = λ u b. not-missed u (f .smallest u b);
-        unused-a = operand-unused _ _ _ (f .below .0);
-        unused-b = operand-unused _ _ _ (f .below .1);
-        unused-e = operand-unused _ _ _ (f .below .2);
+        unused-a = operand-iff _ _ _ .0 (f .below .0) .1;
+        unused-b = operand-iff _ _ _ .0 (f .below .1) .1;
+        unused-e = operand-iff _ _ _ .0 (f .below .2) .1;
       }
 
 -- ---- statements that both hold, or both fail, are equivalent
