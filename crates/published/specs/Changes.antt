@@ -1,0 +1,197 @@
+-- What an action's change to a state means: one replica put anew, with the next id and the quorum, or a quorum at the next
+-- epoch with its request. Assumes nothing.
+use Prim.Native.Nat.{ℕ, _+_, _<_}
+use mathlib.Core.Path.{_≡_, refl, sym, _∙_, ap}
+use mathlib.Core.Logic.{_↔_, inl, inr}
+use native.Mathlib.Omega.{arith}
+use native.Mathlib.Decide.{ℕ-discrete}
+use lib.Dec.{eqb}
+use lib.IntN.{pos}
+use lib.ListN.{length, set}
+use borrow.Author.Tests.{ltb-true, eq-eqb, ne-eqb}
+use Rattle.logic.specs.Lists.{each-set}
+use Rattle.logic.specs.Table.{cond-true, cond-false}
+use Rattle.parts.specs.declared.Leader.{Leader}
+use Rattle.replica.specs.declared.Replica.{Replica}
+use Rattle.replica.specs.Replica.{noReplica}
+use Rattle.cluster.specs.declared.Limits.{Limits}
+use Rattle.cluster.specs.declared.Quorum.{Quorum}
+use Rattle.cluster.specs.declared.Request.{Request}
+use Rattle.cluster.specs.declared.State.{State}
+use Rattle.cluster.specs.State.{replicaCount, nextLeaderEpoch, nextRecordId, stateOf, withReplica, controllerUpdateIsr}
+use Rattle.cluster.specs.Accepted.{EpochLeft}
+use Rattle.actions.specs.Sound.{Sound}
+use Rattle.actions.specs.Request.{request-old, request-new}
+use Rattle.published.specs.KafkaReplication.{except, Log, LocalState, LeaderAndIsr, requestsPlus, ModelState, SameLog, SameLogs, SameStates, SameRequests, SameModelState}
+use Rattle.published.specs.Meaning.{constantsOf, logOf, localStateOf, leaderAndIsrOf, requestOf, meaning, Means}
+use Rattle.published.specs.Reading.{state-at, log-at}
+use Rattle.published.specs.Equality.{same-model-trans, same-model-sym}
+
+-- ---- a function with another value at a
+pub except-same : {A : Type 0} (f : ℕ → A) (a : ℕ) (x : A) → except f a x a ≡ x
+unfolding except
+except-same f a x = cond-true (eqb a a) x (f a) (eq-eqb a a refl)
+
+pub except-other : {A : Type 0} (f : ℕ → A) (a : ℕ) (x : A) (r : ℕ) → (r ≡ a → ⊥) → except f a x r ≡ f r
+unfolding except
+except-other f a x r h = cond-false (eqb r a) x (f r) (ne-eqb r a h)
+
+-- the state of the model of these variables
+abbrev pub modelOf : (ℕ → Log) → (ℕ → LocalState) → ℕ → ℕ → (LeaderAndIsr → Type 0) → LeaderAndIsr → ModelState
+modelOf logs states nextId nextEpoch requests quorum =
+    record {
+      replicaLog = logs;
+      replicaState = states;
+      nextRecordId = nextId;
+      nextLeaderEpoch = nextEpoch;
+      leaderAndIsrRequests = requests;
+      quorumState = quorum;
+    }
+
+-- v is the meaning of a state exactly where it is equal to any state of the model that is
+means-iff : (c : Limits) (v n : ModelState) (t : State) → Means c n t → SameModelState (constantsOf c) v n ↔ Means c v t
+means-iff c v n t h = (
+  (λ e. same-model-trans (constantsOf c) v n (meaning t) e h),
+  (λ e. same-model-trans (constantsOf c) v (meaning t) n e (same-model-sym (constantsOf c) n (meaning t) h)),
+)
+
+module _ (s : State) (d : Sound (s .limits) s) (u : ModelState) (m : Means (s .limits) u s) where
+  -- ---- replica a becomes p
+  module _ (a : ℕ) (p : Replica) (logs : ℕ → Log) (states : ℕ → LocalState) where
+    -- logs and local states are those of u but at a, where they are those of p
+    pub record Becomes : Type 0 where
+      pub own-log : SameLog (logs a) (logOf p)
+      pub other-logs : (r : ℕ) → (r ≡ a → ⊥) → logs r ≡ u .replicaLog r
+      pub own-state : states a ≡ localStateOf p
+      pub other-states : (r : ℕ) → (r ≡ a → ⊥) → states r ≡ u .replicaState r
+
+    -- with this next id and this quorum
+    abbrev put : ℕ → Quorum → State
+    put nextId quorum = stateOf (s .limits) (nextLeaderEpoch s) nextId quorum (s .requests) (set (s .replicas) a p)
+
+    abbrev changed-by-put : ℕ → Quorum → ModelState
+    changed-by-put nextId quorum =
+        modelOf logs states nextId (u .nextLeaderEpoch) (u .leaderAndIsrRequests)
+        (leaderAndIsrOf (quorum .epoch) (quorum .leader) (quorum .isr))
+
+    put-means : (nextId : ℕ) (quorum : Quorum) → Becomes → Means (s .limits) (changed-by-put nextId quorum) (put nextId quorum)
+    unfolding meaning
+    put-means nextId quorum b =
+        record {
+          replicaLog = λ r h.
+              let l : r < replicaCount (s .limits) = ltb-true r _ h in
+              each-set (λ q i. SameLog (logs i) (logOf q)) (s .replicas) a p noReplica (b .own-log) r (room r l)
+              (λ n. rw (b .other-logs r n) (log-at s u m r l));
+          replicaState = λ r h.
+              let l : r < replicaCount (s .limits) = ltb-true r _ h in
+              each-set (λ q i. states i ≡ localStateOf q) (s .replicas) a p noReplica (b .own-state) r (room r l)
+              (λ n. b .other-states r n ∙ state-at s u m r l);
+          nextRecordId = refl;
+          nextLeaderEpoch = m .nextLeaderEpoch;
+          leaderAndIsrRequests = m .leaderAndIsrRequests;
+          quorumState = refl;
+        }
+      where
+        room : (r : ℕ) → r < replicaCount (s .limits) → r < length (s .replicas)
+        room r l = omega (arith, d .tidy .replicas .room, d .rules .s1 .ranges .replicas)
+
+    pub put-iff : (nextId : ℕ) (quorum : Quorum) → Becomes → (v : ModelState)
+        → SameModelState (constantsOf (s .limits)) v (changed-by-put nextId quorum) ↔ Means (s .limits) v (put nextId quorum)
+    put-iff nextId quorum b v = means-iff (s .limits) v (changed-by-put nextId quorum) (put nextId quorum) (put-means nextId quorum b)
+
+    -- with the next id and the quorum as they were
+    pub record PutOnly (v : ModelState) : Type 0 where
+      pub logs-are : SameLogs (constantsOf (s .limits)) (v .replicaLog) logs
+      pub states-are : SameStates (constantsOf (s .limits)) (v .replicaState) states
+      pub next-id : v .nextRecordId ≡ u .nextRecordId
+      pub quorum : v .quorumState ≡ u .quorumState
+      pub next-epoch : v .nextLeaderEpoch ≡ u .nextLeaderEpoch
+      pub requests : SameRequests (v .leaderAndIsrRequests) (u .leaderAndIsrRequests)
+
+    pub put-only-iff : Becomes → (v : ModelState) → PutOnly v ↔ Means (s .limits) v (withReplica s a p)
+    unfolding meaning withReplica
+    put-only-iff b v =
+        let i = put-iff (nextRecordId s) (s .quorum) b v in (
+          (λ t.
+              i .0
+              (record {
+                replicaLog = t .logs-are;
+                replicaState = t .states-are;
+                nextRecordId = t .next-id ∙ m .nextRecordId;
+                nextLeaderEpoch = t .next-epoch;
+                leaderAndIsrRequests = t .requests;
+                quorumState = t .quorum ∙ m .quorumState;
+              })),
+          (λ h.
+              let t = i .1 h in
+              record {
+                logs-are = t .replicaLog;
+                states-are = t .replicaState;
+                next-id = t .nextRecordId ∙ sym (m .nextRecordId);
+                quorum = t .quorumState ∙ sym (m .quorumState);
+                next-epoch = t .nextLeaderEpoch;
+                requests = t .leaderAndIsrRequests;
+              }),
+        )
+
+  -- ---- a quorum at the next epoch, and its request
+  module _ (leader : Leader) (isr : ℕ) (left : EpochLeft s) where
+    abbrev next : State
+    next = controllerUpdateIsr s leader isr
+
+    abbrev new : LeaderAndIsr
+    new = leaderAndIsrOf (pos (nextLeaderEpoch s)) leader isr
+
+    -- what the request of an epoch is
+    of-request : ℕ → Request → LeaderAndIsr
+    of-request e q = leaderAndIsrOf (pos e) (q .leader) (q .isr)
+
+    old-is : (e : ℕ) → e < nextLeaderEpoch s → requestOf next e ≡ requestOf s e
+    unfolding of-request
+    old-is e l = ap (of-request e) (request-old (s .limits) s d leader isr left e l)
+
+    new-is : requestOf next (nextLeaderEpoch s) ≡ new
+    unfolding of-request
+    new-is = ap (of-request (nextLeaderEpoch s)) (request-new (s .limits) s d leader isr left)
+
+    -- the requests are those before and the new one
+    requests-iff : (request : LeaderAndIsr)
+        → requestsPlus (u .leaderAndIsrRequests) new request
+        ↔ ((e : ℕ) × (e < nextLeaderEpoch s + 1) × (request ≡ requestOf next e))
+    unfolding meaning
+    requests-iff request = (to, from)
+      where
+        to : requestsPlus (u .leaderAndIsrRequests) new request → (e : ℕ) × (e < nextLeaderEpoch s + 1) × (request ≡ requestOf next e)
+        to (inl h) =
+            let o = m .leaderAndIsrRequests request .0 h in
+            (o .0, omega (arith, o .1), o .2 ∙ sym (old-is (o .0) (o .1)))
+        to (inr q) = (nextLeaderEpoch s, omega arith, q ∙ sym new-is)
+
+        from : (e : ℕ) × (e < nextLeaderEpoch s + 1) × (request ≡ requestOf next e) → requestsPlus (u .leaderAndIsrRequests) new request
+        from o =
+            elim (ℕ-discrete (o .0) (nextLeaderEpoch s)) [
+              | yes q ↦ inr (o .2 ∙ ap (requestOf next) q ∙ new-is)
+              | no q ↦
+                  let l : o .0 < nextLeaderEpoch s = omega (arith, o .1) in
+                  inl (m .leaderAndIsrRequests request .1 (o .0, l, o .2 ∙ old-is (o .0) l))
+            ]
+
+    abbrev changed : ModelState
+    changed =
+        modelOf (u .replicaLog) (u .replicaState) (u .nextRecordId) (u .nextLeaderEpoch + 1)
+        (requestsPlus (u .leaderAndIsrRequests) new) new
+
+    controller-means : Means (s .limits) changed next
+    unfolding meaning controllerUpdateIsr
+    controller-means =
+        record {
+          replicaLog = m .replicaLog;
+          replicaState = m .replicaState;
+          nextRecordId = m .nextRecordId;
+          nextLeaderEpoch = ap (λ n. n + 1) (m .nextLeaderEpoch);
+          leaderAndIsrRequests = requests-iff;
+          quorumState = refl;
+        }
+
+    pub controller-iff : (v : ModelState) → SameModelState (constantsOf (s .limits)) v changed ↔ Means (s .limits) v next
+    controller-iff v = means-iff (s .limits) v changed next controller-means

@@ -1,0 +1,188 @@
+-- Kinds 0 and 1, ControllerShrinkIsr and ControllerElectLeader: the source's action with the replica a as its choice is the
+-- engine's. Assumes nothing.
+use Prim.Native.Nat.{ℕ, _+_}
+use mathlib.Core.Path.{_≡_, refl, sym, _∙_, ap}
+use mathlib.Core.Bool.{Bool, true, false, not}
+use mathlib.Core.Option.{none, some}
+use mathlib.Core.Logic.{_↔_, _≢_, _⊎_, inl, inr}
+use native.Mathlib.Omega.{arith}
+use borrow.Author.Tests.{ne-eqb}
+use Rattle.logic.specs.Refuse.{refuse-zero, refuse-none}
+use Rattle.parts.specs.declared.Leader.{Leader}
+use Rattle.parts.specs.declared.Leader.the-variants.{None, Broker}
+use Rattle.parts.specs.Refusal.{accepted}
+use Rattle.parts.specs.Isr.{member, without, isAlone}
+use Rattle.parts.specs.Leader.{names}
+use Rattle.parts.specs.LeaderLaws.{names-iff}
+use Rattle.cluster.specs.declared.State.{State}
+use Rattle.cluster.specs.State.{maxLeaderEpoch, nextLeaderEpoch, controllerUpdateIsr}
+use Rattle.cluster.specs.Actions.{epochsUsedUp, controllerShrinkIsrRefusal, shrinkBy, controllerShrinkIsr, controllerElectLeaderRefusal, controllerElectLeader}
+use Rattle.cluster.specs.Accepted.{EpochLeft, controller-shrink-accepted, elect-accepted}
+use Rattle.actions.specs.Sound.{Sound}
+use Rattle.published.specs.KafkaReplication.{Constants, ModelState, _isIn_, singleton, minus, UnchangedNextRecordId, UnchangedReplicaLog, UnchangedReplicaState, ControllerUpdateIsr, ControllerShrinkIsrWith, ControllerElectLeaderWith}
+use Rattle.published.specs.Meaning.{constantsOf, leaderOf, meaning, Means}
+use Rattle.published.specs.Sets.{members-without, members-alone}
+use Rattle.published.specs.Reading.{leader-names-iff, refuted-iff, quorum-at}
+use Rattle.published.specs.Changes.{controller-iff}
+
+module _ (s : State) (d : Sound (s .limits) s) (u : ModelState) (m : Means (s .limits) u s) (v : ModelState) where
+  abbrev k : Constants
+  k = constantsOf (s .limits)
+
+  -- ---- ControllerUpdateIsr, with all else unchanged
+  abbrev Rest : Type 0
+  Rest = UnchangedNextRecordId k u v × UnchangedReplicaLog k u v × UnchangedReplicaState k u v
+
+  abbrev Updated : Leader → ℕ → Type 0
+  Updated leader isr = ControllerUpdateIsr k u v (leaderOf leader) (member isr) × Rest
+
+  updated-iff : (leader : Leader) (isr : ℕ) → Updated leader isr ↔ EpochLeft s × Means (s .limits) v (controllerUpdateIsr s leader isr)
+  unfolding meaning
+  updated-iff leader isr = (to, from)
+    where
+      to : Updated leader isr → EpochLeft s × Means (s .limits) v (controllerUpdateIsr s leader isr)
+      to t =
+          let epoch : t .0 .0 ≡ nextLeaderEpoch s = t .0 .2 .0 ∙ m .nextLeaderEpoch in
+          let left : EpochLeft s = omega (arith, epoch, t .0 .1) in (
+            left,
+            controller-iff s d u m leader isr left v .0
+                (record {
+                  replicaLog = t .1 .1;
+                  replicaState = t .1 .2;
+                  nextRecordId = t .1 .0;
+                  nextLeaderEpoch = t .0 .2 .2;
+                  leaderAndIsrRequests = rw epoch at (t .0 .4);
+                  quorumState = rw epoch at (t .0 .3);
+                }),
+          )
+
+      from : EpochLeft s × Means (s .limits) v (controllerUpdateIsr s leader isr) → Updated leader isr
+      from t =
+          let n = controller-iff s d u m leader isr (t .0) v .1 (t .1) in (
+            (
+              nextLeaderEpoch s,
+              omega (arith, t .0),
+              (sym (m .nextLeaderEpoch), omega (arith, t .0), n .nextLeaderEpoch),
+              n .quorumState,
+              n .leaderAndIsrRequests,
+            ),
+            (n .nextRecordId, n .replicaLog, n .replicaState),
+          )
+
+  -- ---- kind 0
+  -- the engine accepts where a is in the quorum's ISR and an epoch is left
+  epoch-left-by : EpochLeft s → epochsUsedUp s ≡ false
+  unfolding epochsUsedUp
+  epoch-left-by l = ne-eqb (nextLeaderEpoch s) (maxLeaderEpoch (s .limits) + 1) (omega (arith, l))
+
+  shrink-accepted-by : (a : ℕ) → member (s .quorum .isr) a ≡ true → EpochLeft s → controllerShrinkIsrRefusal s a ≡ accepted
+  unfolding controllerShrinkIsrRefusal
+  shrink-accepted-by a h l = refuse-none _ _ _ (ap not h) (refuse-none _ _ _ (epoch-left-by l) refl)
+
+  abbrev Shrinks : ℕ → Type 0
+  Shrinks a = (controllerShrinkIsrRefusal s a ≡ accepted) × Means (s .limits) v (controllerShrinkIsr s a)
+
+  -- a case of the source: where the effect is this update
+  shrink-case : (a : ℕ) (leader : Leader) (isr : ℕ) → member (s .quorum .isr) a ≡ true → controllerShrinkIsr s a ≡ controllerUpdateIsr s leader isr
+      → Updated leader isr ↔ Shrinks a
+  shrink-case a leader isr h e =
+      rw e (
+        (λ t. let n = updated-iff leader isr .0 t in (shrink-accepted-by a h (n .0), n .1)),
+        (λ t. updated-iff leader isr .1 (controller-shrink-accepted s a (d .rules .s1) (t .0) .1, t .1)),
+      )
+
+  -- the effect, by whether a leads and whether it is alone
+  effect-by : (a : ℕ) (leads alone : Bool) → names (s .quorum .leader) a ≡ leads → isAlone (s .quorum .isr) a ≡ alone
+      → controllerShrinkIsr s a ≡ shrinkBy leads alone s a
+  unfolding controllerShrinkIsr
+  effect-by a leads alone n h = rw (n, h)
+
+  leader-member : (a : ℕ) → names (s .quorum .leader) a ≡ true → member (s .quorum .isr) a ≡ true
+  leader-member a n = d .rules .s4 .quorum a (names-iff (s .quorum .leader) a .0 n)
+
+  leads-alone : (a : ℕ) → names (s .quorum .leader) a ≡ true → isAlone (s .quorum .isr) a ≡ true → Updated None (s .quorum .isr) ↔ Shrinks a
+  unfolding shrinkBy
+  leads-alone a n h = shrink-case a None (s .quorum .isr) (leader-member a n) (effect-by a true true n h)
+
+  leads-others : (a : ℕ) → names (s .quorum .leader) a ≡ true → isAlone (s .quorum .isr) a ≡ false
+      → Updated None (without (s .quorum .isr) a) ↔ Shrinks a
+  unfolding shrinkBy
+  leads-others a n h = shrink-case a None (without (s .quorum .isr) a) (leader-member a n) (effect-by a true false n h)
+
+  follows : (a : ℕ) → names (s .quorum .leader) a ≡ false → member (s .quorum .isr) a ≡ true
+      → Updated (s .quorum .leader) (without (s .quorum .isr) a) ↔ Shrinks a
+  unfolding shrinkBy
+  follows a n h = shrink-case a (s .quorum .leader) (without (s .quorum .isr) a) h (effect-by a false _ n refl)
+
+  -- the three cases of the source, of the quorum of s
+  abbrev Cases : ℕ → Type 0
+  Cases a =
+      ((leaderOf (s .quorum .leader) ≡ some a)
+      × (member (s .quorum .isr) ≡ singleton a)
+      × ControllerUpdateIsr k u v none (member (s .quorum .isr)))
+      ⊎ ((leaderOf (s .quorum .leader) ≡ some a)
+      × (member (s .quorum .isr) ≢ singleton a)
+      × ControllerUpdateIsr k u v none (minus (member (s .quorum .isr)) a))
+      ⊎ ((leaderOf (s .quorum .leader) ≢ some a)
+      × a isIn member (s .quorum .isr)
+      × ControllerUpdateIsr k u v (leaderOf (s .quorum .leader)) (minus (member (s .quorum .isr)) a))
+
+  module _ (a : ℕ) where
+    leads : leaderOf (s .quorum .leader) ≡ some a ↔ names (s .quorum .leader) a ≡ true
+    leads = leader-names-iff (s .quorum .leader) a
+
+    alone : member (s .quorum .isr) ≡ singleton a ↔ isAlone (s .quorum .isr) a ≡ true
+    alone = (members-alone (s .quorum .isr) a .1, members-alone (s .quorum .isr) a .0)
+
+    shrink-to : Cases a → Rest → Shrinks a
+    shrink-to (inl x) r = leads-alone a (leads .0 (x .0)) (alone .0 (x .1)) .0 (x .2, r)
+    shrink-to (inr (inl x)) r =
+        leads-others a (leads .0 (x .0)) (refuted-iff _ alone .0 (x .1)) .0 (rw (members-without (s .quorum .isr) a) (x .2), r)
+    shrink-to (inr (inr x)) r =
+        follows a (refuted-iff _ leads .0 (x .0)) (x .1) .0 (rw (members-without (s .quorum .isr) a) (x .2), r)
+
+    shrink-from : Shrinks a → Cases a × Rest
+    shrink-from t = go (names (s .quorum .leader) a) (isAlone (s .quorum .isr) a) refl refl
+      where
+        go : (x y : Bool) → names (s .quorum .leader) a ≡ x → isAlone (s .quorum .isr) a ≡ y → Cases a × Rest
+        go true true n h = let w = leads-alone a n h .1 t in (inl (leads .1 n, alone .1 h, w .0), w .1)
+        go true false n h =
+            let w = leads-others a n h .1 t in
+            (inr (inl (leads .1 n, refuted-iff _ alone .1 h, rw (← (members-without (s .quorum .isr) a)) (w .0))), w .1)
+        go false y n h =
+            let i = controller-shrink-accepted s a (d .rules .s1) (t .0) .0 in
+            let w = follows a n i .1 t in
+            (inr (inr (refuted-iff _ leads .1 n, i, rw (← (members-without (s .quorum .isr) a)) (w .0))), w .1)
+
+    pub controller-shrink-iff : ControllerShrinkIsrWith k u v a ↔ Shrinks a
+    controller-shrink-iff =
+        rw (quorum-at s u m) (
+          (λ t. shrink-to (t .0) (t .1, t .2, t .3)),
+          (λ t. let w = shrink-from t in (w .0, w .1 .0, w .1 .1, w .1 .2)),
+        )
+
+  -- ---- kind 1
+  abbrev Elects : ℕ → Type 0
+  Elects a = (controllerElectLeaderRefusal s a ≡ accepted) × Means (s .limits) v (controllerElectLeader s a)
+
+  elect-accepted-by : (a : ℕ) → member (s .quorum .isr) a ≡ true → names (s .quorum .leader) a ≡ false → EpochLeft s
+      → controllerElectLeaderRefusal s a ≡ accepted
+  unfolding controllerElectLeaderRefusal
+  elect-accepted-by a h n l = refuse-none _ _ _ (ap not h) (refuse-none _ _ _ n (refuse-none _ _ _ (epoch-left-by l) refl))
+
+  not-leading : (a : ℕ) → controllerElectLeaderRefusal s a ≡ accepted → names (s .quorum .leader) a ≡ false
+  unfolding controllerElectLeaderRefusal
+  not-leading a h = refuse-zero _ _ _ (refuse-zero _ _ _ h .1) .0
+
+  pub elect-iff : (a : ℕ) → a isIn u .quorumState .isr × ControllerElectLeaderWith k u v a ↔ Elects a
+  unfolding controllerElectLeader
+  elect-iff a =
+      rw (quorum-at s u m) (
+        (λ t.
+            let n = updated-iff (Broker a) (s .quorum .isr) .0 (t .1 .1, (t .1 .2, t .1 .3, t .1 .4)) in
+            (elect-accepted-by a (t .0) (refuted-iff _ (leads a) .0 (t .1 .0)) (n .0), n .1)),
+        (λ t.
+            let f = elect-accepted s a (d .rules .s1) (t .0) in
+            let n = updated-iff (Broker a) (s .quorum .isr) .1 (f .1, t .1) in
+            (f .0, (refuted-iff _ (leads a) .1 (not-leading a (t .0)), n .0, n .1 .0, n .1 .1, n .1 .2))),
+      )

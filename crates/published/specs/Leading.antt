@@ -1,0 +1,299 @@
+-- Kinds 5, 6 and 7, LeaderShrinkIsr, LeaderExpandIsr and LeaderIncHighWatermark: the source's action with replica a, and b, as
+-- its choices is the engine's. Assumes nothing.
+use Prim.Native.Nat.{ℕ, _+_, _<_}
+use mathlib.Core.Path.{_≡_, refl, sym, _∙_, ap}
+use mathlib.Core.Bool.{true, false, not}
+use mathlib.Core.Logic.{_↔_, Iff·rfl}
+use native.Mathlib.Omega.{arith}
+use lib.Dec.{eqb}
+use borrow.Author.Tests.{lt-ltb, ltb-true, eqb-false, ne-eqb, not-true, not-false}
+use Rattle.logic.specs.Tests.{allBelow, all-at, all-by, and-left, and-right, and-true, implied, implies}
+use Rattle.logic.specs.Refuse.{refuse-zero, refuse-none}
+use Rattle.parts.specs.Refusal.{accepted}
+use Rattle.parts.specs.Isr.{member, without, including}
+use Rattle.replica.specs.declared.Replica.{Replica}
+use Rattle.replica.specs.Change.{withHw, withIsr}
+use Rattle.cluster.specs.declared.Quorum.{Quorum}
+use Rattle.cluster.specs.declared.State.{State}
+use Rattle.cluster.specs.Rules.{rules}
+use Rattle.cluster.specs.Predicates.{rules-iff}
+use Rattle.cluster.specs.State.{replicaCount, logSize, nextRecordId, replicaAt, withReplica, withQuorumIsr}
+use Rattle.cluster.specs.Actions.{replicaPresumesLeadership, replicaIsFollowing, isTrueLeader, isFollowerCaughtUp, quorumUpdateLeaderAndIsr, leaderShrinkIsrRefusal, leaderShrinkIsr, leaderExpandIsrRefusal, leaderExpandIsr, memberHasHw, leaderIncHighWatermarkRefusal, leaderIncHighWatermark}
+use Rattle.cluster.specs.Accepted.{advance-accepted}
+use Rattle.actions.specs.Sound.{Sound}
+use Rattle.published.specs.KafkaReplication.{Constants, _isIn_, Replicas, minus, plus, exceptHw, exceptIsr, LocalState, LeaderAndIsr, ModelState, ReplicaLog·Offsets, ReplicaLog·HasOffset, ReplicaIsFollowing, IsFollowerCaughtUp, UnchangedNextRecordId, UnchangedReplicaLog, UnchangedNextLeaderEpoch, UnchangedRequests, QuorumUpdateLeaderAndIsr, LeaderShrinkIsrWith, LeaderExpandIsrWith, LeaderIncHighWatermarkWith}
+use Rattle.published.specs.Meaning.{constantsOf, leaderAndIsrOf, meaning, Means}
+use Rattle.published.specs.Sets.{members-without, members-including}
+use Rattle.published.specs.Types.{isr-subset}
+use Rattle.published.specs.Reading.{refuted-iff, state-at, log-at, quorum-at, following-iff, presumes-iff, true-leader-iff, caught-up-iff}
+use Rattle.published.specs.Changes.{except-same, except-other, Becomes, put-iff, put-only-iff}
+
+module _ (s : State) (d : Sound (s .limits) s) (u : ModelState) (m : Means (s .limits) u s) (v : ModelState) (a : ℕ) (l : a < replicaCount (s .limits)) where
+  abbrev k : Constants
+  k = constantsOf (s .limits)
+
+  abbrev R : ℕ
+  R = replicaCount (s .limits)
+
+  abbrev own : Replica
+  own = replicaAt s a
+
+  met : rules s ≡ true
+  met = rules-iff s .1 (d .rules)
+
+  isr-is : u .replicaState a .isr ≡ member (own .isr)
+  isr-is = ap (λ (p : LocalState). p .isr) (state-at s u m a l)
+
+  hw-is : u .replicaState a .hw ≡ own .hw
+  hw-is = ap (λ (p : LocalState). p .hw) (state-at s u m a l)
+
+  -- a member of a's ISR is a replica
+  member-below : (b : ℕ) → member (own .isr) b ≡ true → b < R
+  member-below b i = ltb-true b R (isr-subset (s .limits) (own .isr) (d .rules .s1 .ranges .replicas) (d .rules .s2 .replicas a l .within) b i)
+
+  -- ---- QuorumUpdateLeaderAndIsr, with all else unchanged
+  abbrev Rest : Type 0
+  Rest = UnchangedNextRecordId k u v × UnchangedReplicaLog k u v × UnchangedNextLeaderEpoch k u v × UnchangedRequests k u v
+
+  abbrev states-with : ℕ → ℕ → LocalState
+  states-with isr = exceptIsr (u .replicaState) a (member isr)
+
+  isr-changes : (isr : ℕ) → Becomes s d u m a (withIsr own isr) (u .replicaLog) (states-with isr)
+  unfolding withIsr
+  isr-changes isr =
+      record {
+        own-log = log-at s u m a l;
+        other-logs = λ r n. refl;
+        own-state =
+            except-same (u .replicaState) a _
+            ∙ ap (λ (p : LocalState). record { hw = p .hw; leaderEpoch = p .leaderEpoch; leader = p .leader; isr = member isr }) (state-at s u m a l);
+        other-states = except-other (u .replicaState) a _;
+      }
+
+  abbrev quorum-with : ℕ → Quorum
+  quorum-with isr = record { epoch = s .quorum .epoch; leader = s .quorum .leader; isr = isr }
+
+  update-iff : (isr : ℕ) → QuorumUpdateLeaderAndIsr k u v a (member isr) × Rest
+      ↔ (isTrueLeader s a ≡ true) × Means (s .limits) v (quorumUpdateLeaderAndIsr s a isr)
+  unfolding quorumUpdateLeaderAndIsr withQuorumIsr withReplica meaning
+  update-iff isr =
+      let leads = true-leader-iff s u m a l in
+      let put = put-iff s d u m a (withIsr own isr) (u .replicaLog) (states-with isr) (nextRecordId s) (quorum-with isr) (isr-changes isr) v in
+      let same : record { leaderEpoch = u .quorumState .leaderEpoch; leader = u .quorumState .leader; isr = member isr }
+      ≡ leaderAndIsrOf (s .quorum .epoch) (s .quorum .leader) isr =
+      ap (λ (q : LeaderAndIsr). record { leaderEpoch = q .leaderEpoch; leader = q .leader; isr = member isr }) (quorum-at s u m) in (
+        (λ t. (
+          leads .0 (t .0 .0),
+          put .0
+              (record {
+                replicaLog = t .1 .1;
+                replicaState = t .0 .3;
+                nextRecordId = t .1 .0 ∙ m .nextRecordId;
+                nextLeaderEpoch = t .1 .2;
+                leaderAndIsrRequests = t .1 .3;
+                quorumState = t .0 .2 ∙ same;
+              }),
+        )),
+        (λ t.
+            let n = put .1 (t .1) in
+            let e = leads .1 (t .0) in
+            ((e, e .0, n .quorumState ∙ sym same, n .replicaState), (n .nextRecordId ∙ sym (m .nextRecordId), n .replicaLog, n .nextLeaderEpoch, n .leaderAndIsrRequests))),
+      )
+
+  module _ (b : ℕ) where
+    -- ---- kind 5
+    shrink-accepted-by : (a ≡ b → ⊥) → isTrueLeader s a ≡ true → member (own .isr) b ≡ true → isFollowerCaughtUp s a b (own .end) ≡ false
+        → leaderShrinkIsrRefusal s a b ≡ accepted
+    unfolding leaderShrinkIsrRefusal
+    shrink-accepted-by n h i c =
+        refuse-none _ _ _ (ne-eqb a b n) (refuse-none _ _ _ (ap not h) (refuse-none _ _ _ (ap not i) (refuse-none _ _ _ c refl)))
+
+    -- what an accepted one says
+    record Shrinks : Type 0 where
+      other : a ≡ b → ⊥
+      leads : isTrueLeader s a ≡ true
+      inside : member (own .isr) b ≡ true
+      behind : isFollowerCaughtUp s a b (own .end) ≡ false
+
+    shrink-accepted-says : leaderShrinkIsrRefusal s a b ≡ accepted → Shrinks
+    unfolding leaderShrinkIsrRefusal
+    shrink-accepted-says h =
+        let p = refuse-zero _ _ _ h in
+        let q = refuse-zero _ _ _ (p .1) in
+        let v = refuse-zero _ _ _ (q .1) in
+        record {
+          other = eqb-false a b (p .0);
+          leads = not-false _ (q .0);
+          inside = not-false _ (v .0);
+          behind = refuse-zero _ _ _ (v .1) .0;
+        }
+
+    -- the members of a's ISR without a
+    minus-iff : b isIn minus (member (own .isr)) a ↔ (member (own .isr) b ≡ true) × (a ≡ b → ⊥)
+    minus-iff = (
+      (λ h. (
+        and-left (member (own .isr) b) (not (eqb b a)) h,
+        (λ q. eqb-false b a (not-true _ (and-right (member (own .isr) b) (not (eqb b a)) h)) (sym q)),
+      )),
+      (λ h. and-true (h .0) (ap not (ne-eqb b a (λ q. h .1 (sym q))))),
+    )
+
+    behind-iff : b < R → (¬ (IsFollowerCaughtUp k u a b (u .replicaLog a .end))) ↔ isFollowerCaughtUp s a b (own .end) ≡ false
+    behind-iff lb = refuted-iff _ (caught-up-iff s u m met a b l lb (u .replicaLog a .end) (own .end) (log-at s u m a l .end) (omega arith))
+
+    pub leader-shrink-iff : b isIn minus (u .replicaState a .isr) a × LeaderShrinkIsrWith k u v a b
+        ↔ (b < R) × (leaderShrinkIsrRefusal s a b ≡ accepted) × Means (s .limits) v (leaderShrinkIsr s a b)
+    unfolding leaderShrinkIsr
+    leader-shrink-iff =
+        rw (isr-is, ← (members-without (own .isr) b)) (
+          (λ t.
+              let i = minus-iff .0 (t .0) in
+              let lb = member-below b (i .0) in
+              let n = update-iff (without (own .isr) b) .0 (t .1 .1, (t .1 .2, t .1 .3, t .1 .4, t .1 .5)) in
+              (lb, shrink-accepted-by (i .1) (n .0) (i .0) (behind-iff lb .0 (t .1 .0)), n .1)),
+          (λ t.
+              let f = shrink-accepted-says (t .1) in
+              let n = update-iff (without (own .isr) b) .1 (f .leads, t .2) in (
+                minus-iff .1 (f .inside, f .other),
+                (behind-iff (t .0) .1 (f .behind), n .0, n .1 .0, n .1 .1, n .1 .2, n .1 .3),
+              )),
+        )
+
+    -- ---- kind 6
+    expand-accepted-by : isTrueLeader s a ≡ true → member (own .isr) b ≡ false → isFollowerCaughtUp s a b (own .hw) ≡ true
+        → leaderExpandIsrRefusal s a b ≡ accepted
+    unfolding leaderExpandIsrRefusal
+    expand-accepted-by h i c = refuse-none _ _ _ (ap not h) (refuse-none _ _ _ i (refuse-none _ _ _ (ap not c) refl))
+
+    record Expands : Type 0 where
+      leads : isTrueLeader s a ≡ true
+      outside : member (own .isr) b ≡ false
+      caught : isFollowerCaughtUp s a b (own .hw) ≡ true
+
+    expand-accepted-says : leaderExpandIsrRefusal s a b ≡ accepted → Expands
+    unfolding leaderExpandIsrRefusal
+    expand-accepted-says h =
+        let p = refuse-zero _ _ _ h in
+        let q = refuse-zero _ _ _ (p .1) in
+        record { leads = not-false _ (p .0); outside = q .0; caught = not-false _ (refuse-zero _ _ _ (q .1) .0) }
+
+    caught-iff : b < R → IsFollowerCaughtUp k u a b (u .replicaState a .hw) ↔ isFollowerCaughtUp s a b (own .hw) ≡ true
+    caught-iff lb = caught-up-iff s u m met a b l lb (u .replicaState a .hw) (own .hw) hw-is (d .rules .s5 a l .hw)
+
+    outside-iff : (¬ (b isIn member (own .isr))) ↔ member (own .isr) b ≡ false
+    outside-iff = refuted-iff (member (own .isr) b) Iff·rfl
+
+    pub leader-expand-iff : b isIn Replicas k × ¬ (b isIn u .replicaState a .isr) × LeaderExpandIsrWith k u v a b
+        ↔ (b < R) × (leaderExpandIsrRefusal s a b ≡ accepted) × Means (s .limits) v (leaderExpandIsr s a b)
+    unfolding leaderExpandIsr
+    leader-expand-iff =
+        rw isr-is (
+          (λ t.
+              let lb : b < R = ltb-true b R (t .0) in
+              let n = update-iff (including (own .isr) b) .0 (rw (joined lb) (t .2 .1), (t .2 .2, t .2 .3, t .2 .4, t .2 .5)) in
+              (lb, expand-accepted-by (n .0) (outside-iff .0 (t .1)) (caught-iff lb .0 (t .2 .0)), n .1)),
+          (λ t.
+              let f = expand-accepted-says (t .1) in
+              let n = update-iff (including (own .isr) b) .1 (f .leads, t .2) in (
+                lt-ltb b R (t .0),
+                outside-iff .1 (f .outside),
+                (caught-iff (t .0) .1 (f .caught), rw (← (joined (t .0))) (n .0), n .1 .0, n .1 .1, n .1 .2, n .1 .3),
+              )),
+        )
+      where
+        joined : b < R → member (including (own .isr) b) ≡ plus (member (own .isr)) b
+        joined lb = members-including (own .isr) b (omega (arith, d .rules .s1 .ranges .replicas))
+
+  -- ---- kind 7
+  abbrev states-raised : ℕ → LocalState
+  states-raised = exceptHw (u .replicaState) a (u .replicaState a .hw + 1)
+
+  hw-rises : Becomes s d u m a (withHw own (own .hw + 1)) (u .replicaLog) states-raised
+  unfolding withHw
+  hw-rises =
+      record {
+        own-log = log-at s u m a l;
+        other-logs = λ r n. refl;
+        own-state =
+            except-same (u .replicaState) a _
+            ∙ ap (λ (p : LocalState). record { hw = p .hw + 1; leaderEpoch = p .leaderEpoch; leader = p .leader; isr = p .isr }) (state-at s u m a l);
+        other-states = except-other (u .replicaState) a _;
+      }
+
+  -- what the source asks of the followers
+  abbrev AllHave : ℕ → Type 0
+  AllHave offset =
+      (follower : ℕ) → follower isIn u .replicaState a .isr → ReplicaIsFollowing u follower a × ReplicaLog·HasOffset u follower offset
+
+  all-have-iff : (offset : ℕ) → offset ≡ own .hw → AllHave offset ↔ allBelow R (memberHasHw s a) ≡ true
+  unfolding memberHasHw
+  all-have-iff offset q =
+      rw (isr-is, q) (
+        (λ f.
+            all-by R (memberHasHw s a)
+            (λ i li.
+            implies (member (own .isr) i) _
+            (λ h.
+            let t = f i h in
+            and-true (following-iff s u m i a li .0 (t .0)) (lt-ltb (own .hw) (replicaAt s i .end) (omega (arith, t .1, log-at s u m i li .end)))))),
+        (λ e i h.
+            let li = member-below i h in
+            let t = implied (member (own .isr) i) _ (all-at R (memberHasHw s a) e i li) h in (
+              following-iff s u m i a li .1 (and-left (replicaIsFollowing s i a) _ t),
+              (let o = ltb-true (own .hw) (replicaAt s i .end) (and-right (replicaIsFollowing s i a) _ t) in omega (arith, o, log-at s u m i li .end)),
+            )),
+      )
+
+  inc-accepted-by : replicaPresumesLeadership s a ≡ true → allBelow R (memberHasHw s a) ≡ true → leaderIncHighWatermarkRefusal s a ≡ accepted
+  unfolding leaderIncHighWatermarkRefusal
+  inc-accepted-by p h = refuse-none _ _ _ (ap not p) (refuse-none _ _ _ (ap not h) refl)
+
+  inc-accepted-says : leaderIncHighWatermarkRefusal s a ≡ accepted → (replicaPresumesLeadership s a ≡ true) × (allBelow R (memberHasHw s a) ≡ true)
+  unfolding leaderIncHighWatermarkRefusal
+  inc-accepted-says h =
+      let p = refuse-zero _ _ _ h in
+      (not-false _ (p .0), not-false _ (refuse-zero _ _ _ (p .1) .0))
+
+  -- a leads itself, so it is in its own ISR and has the offset of its high watermark: that offset is below LogSize
+  hw-offset : leaderIncHighWatermarkRefusal s a ≡ accepted → own .hw < logSize (s .limits)
+  hw-offset h =
+      let f = advance-accepted s a h in
+      omega (arith, f .1 a l (d .rules .s5 a l .own (f .0)), d .rules .s2 .ends a l)
+
+  pub inc-iff : ((offset : ℕ) × ReplicaLog·Offsets k offset × LeaderIncHighWatermarkWith k u v offset a)
+      ↔ (leaderIncHighWatermarkRefusal s a ≡ accepted) × Means (s .limits) v (leaderIncHighWatermark s a)
+  unfolding leaderIncHighWatermark
+  inc-iff =
+      let put = put-only-iff s d u m a (withHw own (own .hw + 1)) (u .replicaLog) states-raised hw-rises v in
+      let presumes = presumes-iff s u m a l in (
+        (λ t.
+            let b = t .2 in (
+              inc-accepted-by (presumes .0 (b .0)) (all-have-iff (t .0) (b .1 ∙ hw-is) .0 (b .2)),
+              put .0
+                  (record {
+                    logs-are = b .5;
+                    states-are = b .3;
+                    next-id = b .4;
+                    quorum = b .6;
+                    next-epoch = b .7;
+                    requests = b .8;
+                  }),
+            )),
+        (λ t.
+            let f = inc-accepted-says (t .0) in
+            let n = put .1 (t .1) in (
+              own .hw,
+              hw-offset (t .0),
+              (
+                presumes .1 (f .0),
+                sym hw-is,
+                all-have-iff (own .hw) refl .1 (f .1),
+                n .states-are,
+                n .next-id,
+                n .logs-are,
+                n .quorum,
+                n .next-epoch,
+                n .requests,
+              ),
+            )),
+      )

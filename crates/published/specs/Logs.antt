@@ -1,0 +1,253 @@
+-- Kinds 4 and 8, LeaderWrite and FollowerReplicate: the source's action with replica a, and b, as its choices is the engine's.
+-- Assumes nothing.
+use Prim.Native.Nat.{ℕ, _+_, _<_, min}
+use mathlib.Core.Path.{_≡_, refl, sym, _∙_, ap}
+use mathlib.Core.Bool.{not}
+use mathlib.Core.Logic.{_↔_}
+use native.Mathlib.Omega.{arith}
+use lib.ListN.{length}
+use borrow.Author.Tests.{lt-ltb, ltb-true, lt-leb, not-false}
+use Rattle.logic.specs.Lists.{each-set}
+use Rattle.logic.specs.Refuse.{refuse-zero, refuse-none}
+use Rattle.parts.specs.Refusal.{accepted}
+use Rattle.replica.specs.declared.Record.{Record}
+use Rattle.replica.specs.declared.Replica.{Replica}
+use Rattle.replica.specs.Replica.{zeroRecord, recordAt}
+use Rattle.replica.specs.Change.{withHw, append}
+use Rattle.cluster.specs.declared.State.{State}
+use Rattle.cluster.specs.State.{replicaCount, logSize, maxRecords, nextRecordId, replicaAt, withReplica, withNextRecordId}
+use Rattle.cluster.specs.Actions.{leaderWriteRefusal, nextRecord, leaderWrite, followerReplicateRefusal, followerReplicate}
+use Rattle.cluster.specs.Accepted.{write-accepted}
+use Rattle.actions.specs.Tidy.{tidy-replica-iff}
+use Rattle.actions.specs.Sound.{Sound}
+use Rattle.published.specs.KafkaReplication.{Constants, _isIn_, Replicas, except, exceptHw, LogRecord, Log, LocalState, ModelState, SameLog, followerHw, RecordSeq·IdSet, ReplicaLog·Offsets, ReplicaPresumesLeadership, ReplicaIsFollowing, LeaderWriteWith, FollowerReplicateWith}
+use Rattle.published.specs.Meaning.{constantsOf, leaderOf, recordOf, logOf, localStateOf, meaning, Means}
+use Rattle.published.specs.Reading.{state-at, log-at, following-iff, presumes-iff}
+use Rattle.published.specs.Changes.{except-same, except-other, Becomes, put-iff, put-only-iff}
+
+-- a log with a record more at its end
+abbrev pub appended : Log → ℕ → LogRecord → Log
+appended x offset r = record { end = offset + 1; entry = except (x .entry) offset r }
+
+-- what it is for a log of the model is what it is for a replica
+append-log : (x : Log) (p : Replica) (offset : ℕ) (r : Record) → SameLog x (logOf p) → offset ≡ p .end → p .end < length (p .log)
+    → SameLog (appended x offset (recordOf r)) (logOf (append p r))
+unfolding append
+append-log x p offset r m q room =
+    record {
+      end = ap (λ n. n + 1) q;
+      entry = λ y h.
+          each-set (λ w i. except (x .entry) offset (recordOf r) i ≡ recordOf w) (p .log) (p .end) r zeroRecord own y (omega (arith, room, q))
+          (λ n. except-other (x .entry) offset (recordOf r) y (λ i. n (i ∙ q)) ∙ m .entry y (omega (arith, m .end, q)));
+    }
+  where
+    own : except (x .entry) offset (recordOf r) (p .end) ≡ recordOf r
+    own = ap (except (x .entry) offset (recordOf r)) (sym q) ∙ except-same (x .entry) offset (recordOf r)
+
+module _ (s : State) (d : Sound (s .limits) s) (u : ModelState) (m : Means (s .limits) u s) (v : ModelState) (a : ℕ) where
+  abbrev k : Constants
+  k = constantsOf (s .limits)
+
+  abbrev R : ℕ
+  R = replicaCount (s .limits)
+
+  abbrev own : Replica
+  own = replicaAt s a
+
+  -- the logs with a record more at the end of a's
+  abbrev logs-with : LogRecord → ℕ → ℕ → Log
+  logs-with r offset = except (u .replicaLog) a (appended (u .replicaLog a) offset r)
+
+  own-log : (r : Record) (offset : ℕ) → a < R → offset ≡ own .end → own .end < logSize (s .limits)
+      → SameLog (logs-with (recordOf r) offset a) (logOf (append own r))
+  own-log r offset l q room =
+      let log = tidy-replica-iff own .0 (d .tidy .replicas .used a (omega (arith, d .rules .s1 .ranges .replicas)) l) in
+      rw (except-same (u .replicaLog) a (appended (u .replicaLog a) offset (recordOf r)))
+      (append-log (u .replicaLog a) own offset r (log-at s u m a l) q (omega (arith, room, log .room, d .rules .s1 .ranges .log)))
+
+  -- ---- kind 4
+  module _ (l : a < R) where
+    abbrev written : ℕ → LogRecord
+    written id = record { id = id; epoch = u .replicaState a .leaderEpoch }
+
+    written-is : (id : ℕ) → id ≡ nextRecordId s → written id ≡ recordOf (nextRecord s a)
+    written-is id q = λ i. record { id = q i; epoch = state-at s u m a l i .leaderEpoch }
+
+    writes : (id offset : ℕ) → id ≡ nextRecordId s → offset ≡ own .end → own .end < logSize (s .limits)
+        → Becomes s d u m a (append own (nextRecord s a)) (logs-with (written id) offset) (u .replicaState)
+    unfolding append
+    writes id offset q o room =
+        record {
+          own-log = rw (written-is id q) (own-log (nextRecord s a) offset l o room);
+          other-logs = except-other (u .replicaLog) a _;
+          own-state = state-at s u m a l;
+          other-states = λ r n. refl;
+        }
+
+    accepted-by : ReplicaPresumesLeadership u a → nextRecordId s < maxRecords (s .limits) → own .end < logSize (s .limits)
+        → leaderWriteRefusal s a ≡ accepted
+    unfolding leaderWriteRefusal
+    accepted-by p i room =
+        refuse-none _ _ _ (ap not (presumes-iff s u m a l .0 p))
+        (refuse-none _ _ _ (lt-leb (maxRecords (s .limits)) (nextRecordId s) i)
+        (refuse-none _ _ _ (lt-leb (logSize (s .limits)) (own .end) room) refl))
+
+    write-to : (id offset : ℕ) → LeaderWriteWith k u v a id offset
+        → (leaderWriteRefusal s a ≡ accepted) × Means (s .limits) v (leaderWrite s a)
+    unfolding leaderWrite withNextRecordId withReplica meaning
+    write-to id offset t =
+        let q : id ≡ nextRecordId s = t .1 .0 ∙ m .nextRecordId in
+        let o : offset ≡ own .end = t .2 .1 ∙ log-at s u m a l .end in
+        let room : own .end < logSize (s .limits) = omega (arith, t .2 .0, o) in (
+          accepted-by (t .0) (omega (arith, q, t .1 .1, d .rules .s1 .ranges .records-low)) room,
+          put-iff s d u m a (append own (nextRecord s a)) (logs-with (written id) offset) (u .replicaState)
+              (nextRecordId s + 1) (s .quorum) (writes id offset q o room) v .0
+              (record {
+                replicaLog = t .2 .2;
+                replicaState = t .3;
+                nextRecordId = t .1 .2 ∙ ap (λ n. n + 1) (m .nextRecordId);
+                nextLeaderEpoch = t .4;
+                leaderAndIsrRequests = t .6;
+                quorumState = t .5 ∙ m .quorumState;
+              }),
+        )
+
+    write-from : leaderWriteRefusal s a ≡ accepted → Means (s .limits) v (leaderWrite s a)
+        → RecordSeq·IdSet k (nextRecordId s) × ReplicaLog·Offsets k (own .end) × LeaderWriteWith k u v a (nextRecordId s) (own .end)
+    unfolding leaderWrite withNextRecordId withReplica meaning
+    write-from h t =
+        let f = write-accepted s a h in
+        let n =
+        put-iff s d u m a (append own (nextRecord s a)) (logs-with (written (nextRecordId s)) (own .end)) (u .replicaState)
+        (nextRecordId s + 1) (s .quorum) (writes (nextRecordId s) (own .end) refl refl (f .room)) v .1 t in (
+          omega (arith, f .id),
+          f .room,
+          (
+            ap (λ (p : LocalState). p .leader) (state-at s u m a l) ∙ ap leaderOf (f .itself),
+            (sym (m .nextRecordId), omega (arith, f .id), n .nextRecordId ∙ ap (λ n. n + 1) (sym (m .nextRecordId))),
+            (f .room, sym (log-at s u m a l .end), n .replicaLog),
+            n .replicaState,
+            n .nextLeaderEpoch,
+            n .quorumState ∙ sym (m .quorumState),
+            n .leaderAndIsrRequests,
+          ),
+        )
+
+  -- LeaderWrite of replica a
+  pub write-iff : ((id offset : ℕ)
+      × a isIn Replicas k
+      × RecordSeq·IdSet k id
+      × ReplicaLog·Offsets k offset
+      × LeaderWriteWith k u v a id offset)
+      ↔ (a < R) × (leaderWriteRefusal s a ≡ accepted) × Means (s .limits) v (leaderWrite s a)
+  write-iff = (
+    (λ t. let l = ltb-true a R (t .2) in let n = write-to l (t .0) (t .1) (t .5) in (l, n .0, n .1)),
+    (λ t.
+        let n = write-from (t .0) (t .1) (t .2) in
+        (nextRecordId s, own .end, lt-ltb a R (t .0), n .0, n .1, n .2)),
+  )
+
+  -- ---- kind 8, with b as the leader
+  module _ (b : ℕ) (l : a < R) (lb : b < R) where
+    abbrev leading : Replica
+    leading = replicaAt s b
+
+    abbrev copied : Record
+    copied = recordAt leading (own .end)
+
+    abbrev replicated : Replica
+    replicated = withHw (append own copied) (min (leading .hw) (own .end + 1))
+
+    -- the follower's local state with its new high watermark
+    abbrev states-with : ℕ → LocalState
+    states-with = exceptHw (u .replicaState) a (followerHw u a b)
+
+    own-state : states-with a ≡ localStateOf replicated
+    unfolding withHw append
+    own-state =
+        except-same (u .replicaState) a _
+        ∙ (λ i. record {
+          hw = min (state-at s u m b lb i .hw) (log-at s u m a l .end i + 1);
+          leaderEpoch = state-at s u m a l i .leaderEpoch;
+          leader = state-at s u m a l i .leader;
+          isr = state-at s u m a l i .isr;
+        })
+
+    replicates : (r : LogRecord) (offset : ℕ) → r ≡ recordOf copied → offset ≡ own .end → own .end < logSize (s .limits)
+        → Becomes s d u m a replicated (logs-with r offset) states-with
+    unfolding withHw
+    replicates r offset q o room =
+        record {
+          own-log = rw q (own-log copied offset l o room);
+          other-logs = except-other (u .replicaLog) a _;
+          own-state = own-state;
+          other-states = except-other (u .replicaState) a _;
+        }
+
+    replicate-accepted-by : ReplicaPresumesLeadership u b → ReplicaIsFollowing u a b → own .end < leading .end → followerReplicateRefusal s a b ≡ accepted
+    unfolding followerReplicateRefusal
+    replicate-accepted-by p f h =
+        refuse-none _ _ _ (ap not (presumes-iff s u m b lb .0 p))
+        (refuse-none _ _ _ (ap not (following-iff s u m a b l .0 f))
+        (refuse-none _ _ _ (ap not (lt-ltb (own .end) (leading .end) h)) refl))
+
+    replicate-to : FollowerReplicateWith k u v a b → (followerReplicateRefusal s a b ≡ accepted) × Means (s .limits) v (followerReplicate s a b)
+    unfolding followerReplicate
+    replicate-to t =
+        let r = t .2 .0 in
+        let offset = t .2 .1 in
+        let entry = t .2 .2 in
+        let add = t .2 .3 in
+        let log = log-at s u m b lb in
+        let o : offset ≡ own .end = add .1 ∙ log-at s u m a l .end in
+        let q : r ≡ recordOf copied = sym (entry .1) ∙ log .entry offset (entry .0) ∙ ap (λ x. recordOf (recordAt leading x)) o in (
+          replicate-accepted-by (t .0) (t .1) (omega (arith, entry .0, log .end, o)),
+          put-only-iff s d u m a replicated (logs-with r offset) states-with (replicates r offset q o (omega (arith, add .0, o))) v .0
+              (record {
+                logs-are = add .2;
+                states-are = t .3;
+                next-id = t .4;
+                quorum = t .5;
+                next-epoch = t .6;
+                requests = t .7;
+              }),
+        )
+
+    replicate-from : followerReplicateRefusal s a b ≡ accepted → Means (s .limits) v (followerReplicate s a b) → FollowerReplicateWith k u v a b
+    unfolding followerReplicateRefusal followerReplicate
+    replicate-from h t =
+        let p = refuse-zero _ _ _ h in
+        let q = refuse-zero _ _ _ (p .1) in
+        let more : own .end < leading .end = ltb-true _ _ (not-false _ (refuse-zero _ _ _ (q .1) .0)) in
+        let room : own .end < logSize (s .limits) = omega (arith, more, d .rules .s2 .ends b lb) in
+        let log = log-at s u m b lb in
+        let below : own .end < u .replicaLog b .end = omega (arith, log .end, more) in
+        let n =
+        put-only-iff s d u m a replicated (logs-with (recordOf copied) (own .end)) states-with
+        (replicates (recordOf copied) (own .end) refl refl room) v .1 t in (
+          presumes-iff s u m b lb .1 (not-false _ (p .0)),
+          following-iff s u m a b l .1 (not-false _ (q .0)),
+          (
+            recordOf copied,
+            own .end,
+            (below, log .entry (own .end) below),
+            (room, sym (log-at s u m a l .end), n .logs-are),
+          ),
+          n .states-are,
+          n .next-id,
+          n .quorum,
+          n .next-epoch,
+          n .requests,
+        )
+
+  -- FollowerReplicate of follower a from leader b
+  pub replicate-iff : (b : ℕ) → a isIn Replicas k × b isIn Replicas k × FollowerReplicateWith k u v a b
+      ↔ (a < R) × (b < R) × (followerReplicateRefusal s a b ≡ accepted) × Means (s .limits) v (followerReplicate s a b)
+  replicate-iff b = (
+    (λ t.
+        let l = ltb-true a R (t .0) in
+        let lb = ltb-true b R (t .1) in
+        let n = replicate-to b l lb (t .2) in
+        (l, lb, n .0, n .1)),
+    (λ t. (lt-ltb a R (t .0), lt-ltb b R (t .1), replicate-from b (t .0) (t .1) (t .2) (t .3))),
+  )
