@@ -1,5 +1,5 @@
 -- The finite behaviours of the published model are the sequences of accepted actions from a fresh state, and each of their
--- states meets S1 to S7. Assumes nothing.
+-- states meets S1 to S7, and so TypeOk. Assumes nothing.
 use mathlib.Core.Path.{_≡_, _∙_, ap}
 use mathlib.Core.Bool.{true}
 use mathlib.Core.List.{List, [], _∷_, map}
@@ -13,11 +13,12 @@ use Rattle.cluster.specs.Fresh.{freshState, fresh}
 use Rattle.cluster.specs.FreshLaws.{fresh-accepted, fresh-answer-rules}
 use Rattle.cluster.specs.Act.{act}
 use Rattle.actions.specs.Kept.{act-kept}
-use Rattle.published.specs.KafkaReplication.{ModelState, Next, Steps, FiniteBehaviour}
+use Rattle.published.specs.KafkaReplication.{TypeOk, ModelState, Next, Steps, FiniteBehaviour}
 use Rattle.published.specs.Meaning.{constantsOf, meaning, Means}
 use Rattle.published.specs.Choices.{Choice}
 use Rattle.published.specs.Equality.{same-model-refl}
 use Rattle.published.specs.Engine.{engine-is-model}
+use Rattle.published.specs.Types.{type-ok-same, rules-type-ok}
 use Rattle.published.specs.Start.{fresh-init, init-is-fresh}
 use Rattle.published.specs.Enabled.{means-epochs, next-is-choice}
 
@@ -39,10 +40,18 @@ MeanAll c [] (s ∷ ss) = ⊥
 MeanAll c (u ∷ us) [] = ⊥
 MeanAll c (u ∷ us) (s ∷ ss) = Means c u s × MeanAll c us ss
 
--- each state of the list is the meaning of a state of this configuration that meets S1 to S7
-abbrev pub EachMeetsRules : Limits → List ModelState → Type 0
-EachMeetsRules c [] = Unit {0}
-EachMeetsRules c (u ∷ us) = ((s : State) × (rules s ≡ true) × (s .limits ≡ c) × Means c u s) × EachMeetsRules c us
+-- u is the meaning of a state of this configuration that meets S1 to S7
+abbrev pub MeetsRules : Limits → ModelState → Type 0
+MeetsRules c u = (s : State) × (rules s ≡ true) × (s .limits ≡ c) × Means c u s
+
+-- each state of the list is so
+abbrev pub Each : (ModelState → Type 0) → List ModelState → Type 0
+Each P [] = Unit {0}
+Each P (u ∷ us) = P u × Each P us
+
+each-by : (P Q : ModelState → Type 0) → ((u : ModelState) → P u → Q u) → (us : List ModelState) → Each P us → Each Q us
+each-by P Q f [] h = tt
+each-by P Q f (u ∷ us) h = (f u (h .0), each-by P Q f us (h .1))
 
 -- ---- one step
 module _ (c : Limits) (s : State) (met : rules s ≡ true) (same : s .limits ≡ c) where
@@ -95,7 +104,7 @@ steps-are-actions c s met same u m (v ∷ vs) h =
 
 -- what accepted actions hand back meets the rules
 handed-back-meets-rules : (c : Limits) (s : State) → s .limits ≡ c → (actions : List Action) → AllAccepted s actions
-    → (us : List ModelState) → MeanAll c us (statesAfter s actions) → EachMeetsRules c us
+    → (us : List ModelState) → MeanAll c us (statesAfter s actions) → Each (MeetsRules c) us
 unfolding statesAfter
 handed-back-meets-rules c s same [] h [] m = tt
 handed-back-meets-rules c s same [] h (u ∷ us) m = absurd m
@@ -130,10 +139,19 @@ module _ (c : Limits) (ok : fresh c .refusal ≡ accepted) where
       (r .0, r .1, (m, r .2))
 
   -- so each of its states meets the rules
-  pub behaviour-meets-rules : (us : List ModelState) → FiniteBehaviour (constantsOf c) us → EachMeetsRules c us
+  pub behaviour-meets-rules : (us : List ModelState) → FiniteBehaviour (constantsOf c) us → Each (MeetsRules c) us
   behaviour-meets-rules [] h = absurd h
   behaviour-meets-rules (u ∷ us) h =
       let p = behaviour-is-sequence (u ∷ us) h in (
         (fresh c .state, fresh-answer-rules c ok, fresh-limits, p .2 .0),
         handed-back-meets-rules c (fresh c .state) fresh-limits (p .0) (p .1) us (p .2 .1),
       )
+
+  -- and has the types of the model
+  pub behaviour-type-ok : (us : List ModelState) → FiniteBehaviour (constantsOf c) us → Each (TypeOk (constantsOf c)) us
+  behaviour-type-ok us h =
+      each-by (MeetsRules c) (TypeOk (constantsOf c))
+      (λ u p.
+      type-ok-same (constantsOf c) u (meaning (p .0)) (p .3)
+      (rw (← (p .2)) (rules-type-ok (p .0) (p .1))))
+      us (behaviour-meets-rules us h)

@@ -22,7 +22,7 @@ use Rattle.cluster.specs.State.{replicaCount, nextLeaderEpoch, nextRecordId, st
 use Rattle.cluster.specs.Accepted.{EpochLeft}
 use Rattle.actions.specs.Sound.{Sound}
 use Rattle.actions.specs.Request.{request-old, request-new}
-use Rattle.published.specs.KafkaReplication.{except, Log, LocalState, LeaderAndIsr, requestsPlus, ModelState, SameLog, SameLogs, SameStates, SameRequests, SameModelState}
+use Rattle.published.specs.KafkaReplication.{except, Log, LocalState, LeaderAndIsr, requestsPlus, ModelState, SameLog, SameModelState}
 use Rattle.published.specs.Meaning.{constantsOf, logOf, localStateOf, leaderAndIsrOf, requestOf, meaning, Means}
 use Rattle.published.specs.Reading.{state-at, log-at}
 use Rattle.published.specs.Equality.{same-model-trans, same-model-sym}
@@ -37,7 +37,7 @@ unfolding except
 except-other f a x r h = cond-false (eqb r a) x (f r) (ne-eqb r a h)
 
 -- the state of the model of these variables
-abbrev pub modelOf : (ℕ → Log) → (ℕ → LocalState) → ℕ → ℕ → (LeaderAndIsr → Type 0) → LeaderAndIsr → ModelState
+abbrev modelOf : (ℕ → Log) → (ℕ → LocalState) → ℕ → ℕ → (LeaderAndIsr → Type 0) → LeaderAndIsr → ModelState
 modelOf logs states nextId nextEpoch requests quorum =
     record {
       replicaLog = logs;
@@ -55,29 +55,30 @@ means-iff c v n t h = (
   (λ e. same-model-trans (constantsOf c) v (meaning t) n e (same-model-sym (constantsOf c) n (meaning t) h)),
 )
 
+-- replica a becomes p: logs and local states are those of u but at a, where they are those of p
+pub record Becomes (u : ModelState) (a : ℕ) (p : Replica) (logs : ℕ → Log) (states : ℕ → LocalState) : Type 0 where
+  pub own-log : SameLog (logs a) (logOf p)
+  pub other-logs : (r : ℕ) → (r ≡ a → ⊥) → logs r ≡ u .replicaLog r
+  pub own-state : states a ≡ localStateOf p
+  pub other-states : (r : ℕ) → (r ≡ a → ⊥) → states r ≡ u .replicaState r
+
 module _ (s : State) (d : Sound (s .limits) s) (u : ModelState) (m : Means (s .limits) u s) where
   -- ---- replica a becomes p
   module _ (a : ℕ) (p : Replica) (logs : ℕ → Log) (states : ℕ → LocalState) where
-    -- logs and local states are those of u but at a, where they are those of p
-    pub record Becomes : Type 0 where
-      pub own-log : SameLog (logs a) (logOf p)
-      pub other-logs : (r : ℕ) → (r ≡ a → ⊥) → logs r ≡ u .replicaLog r
-      pub own-state : states a ≡ localStateOf p
-      pub other-states : (r : ℕ) → (r ≡ a → ⊥) → states r ≡ u .replicaState r
+    -- with the next id n and the quorum q
+    abbrev changed-by-put : ℕ → LeaderAndIsr → ModelState
+    changed-by-put n q = modelOf logs states n (u .nextLeaderEpoch) (u .leaderAndIsrRequests) q
 
-    -- with this next id and this quorum
     abbrev put : ℕ → Quorum → State
     put nextId quorum = stateOf (s .limits) (nextLeaderEpoch s) nextId quorum (s .requests) (set (s .replicas) a p)
 
-    abbrev changed-by-put : ℕ → Quorum → ModelState
-    changed-by-put nextId quorum =
-        modelOf logs states nextId (u .nextLeaderEpoch) (u .leaderAndIsrRequests)
-        (leaderAndIsrOf (quorum .epoch) (quorum .leader) (quorum .isr))
-
-    put-means : (nextId : ℕ) (quorum : Quorum) → Becomes → Means (s .limits) (changed-by-put nextId quorum) (put nextId quorum)
+    pub put-iff : (n nextId : ℕ) (q : LeaderAndIsr) (quorum : Quorum) → n ≡ nextId
+        → q ≡ leaderAndIsrOf (quorum .epoch) (quorum .leader) (quorum .isr) → Becomes u a p logs states → (v : ModelState)
+        → SameModelState (constantsOf (s .limits)) v (changed-by-put n q) ↔ Means (s .limits) v (put nextId quorum)
     unfolding meaning
-    put-means nextId quorum b =
-        record {
+    put-iff n nextId q quorum id-is quorum-is b v =
+        means-iff (s .limits) v (changed-by-put n q) (put nextId quorum)
+        (record {
           replicaLog = λ r h.
               let l : r < replicaCount (s .limits) = ltb-true r _ h in
               each-set (λ q i. SameLog (logs i) (logOf q)) (s .replicas) a p noReplica (b .own-log) r (room r l)
@@ -86,53 +87,20 @@ module _ (s : State) (d : Sound (s .limits) s) (u : ModelState) (m : Means (s .l
               let l : r < replicaCount (s .limits) = ltb-true r _ h in
               each-set (λ q i. states i ≡ localStateOf q) (s .replicas) a p noReplica (b .own-state) r (room r l)
               (λ n. b .other-states r n ∙ state-at s u m r l);
-          nextRecordId = refl;
+          nextRecordId = id-is;
           nextLeaderEpoch = m .nextLeaderEpoch;
           leaderAndIsrRequests = m .leaderAndIsrRequests;
-          quorumState = refl;
-        }
+          quorumState = quorum-is;
+        })
       where
         room : (r : ℕ) → r < replicaCount (s .limits) → r < length (s .replicas)
         room r l = omega (arith, d .tidy .replicas .room, d .rules .s1 .ranges .replicas)
 
-    pub put-iff : (nextId : ℕ) (quorum : Quorum) → Becomes → (v : ModelState)
-        → SameModelState (constantsOf (s .limits)) v (changed-by-put nextId quorum) ↔ Means (s .limits) v (put nextId quorum)
-    put-iff nextId quorum b v = means-iff (s .limits) v (changed-by-put nextId quorum) (put nextId quorum) (put-means nextId quorum b)
-
     -- with the next id and the quorum as they were
-    pub record PutOnly (v : ModelState) : Type 0 where
-      pub logs-are : SameLogs (constantsOf (s .limits)) (v .replicaLog) logs
-      pub states-are : SameStates (constantsOf (s .limits)) (v .replicaState) states
-      pub next-id : v .nextRecordId ≡ u .nextRecordId
-      pub quorum : v .quorumState ≡ u .quorumState
-      pub next-epoch : v .nextLeaderEpoch ≡ u .nextLeaderEpoch
-      pub requests : SameRequests (v .leaderAndIsrRequests) (u .leaderAndIsrRequests)
-
-    pub put-only-iff : Becomes → (v : ModelState) → PutOnly v ↔ Means (s .limits) v (withReplica s a p)
+    pub put-only-iff : Becomes u a p logs states → (v : ModelState)
+        → SameModelState (constantsOf (s .limits)) v (changed-by-put (u .nextRecordId) (u .quorumState)) ↔ Means (s .limits) v (withReplica s a p)
     unfolding meaning withReplica
-    put-only-iff b v =
-        let i = put-iff (nextRecordId s) (s .quorum) b v in (
-          (λ t.
-              i .0
-              (record {
-                replicaLog = t .logs-are;
-                replicaState = t .states-are;
-                nextRecordId = t .next-id ∙ m .nextRecordId;
-                nextLeaderEpoch = t .next-epoch;
-                leaderAndIsrRequests = t .requests;
-                quorumState = t .quorum ∙ m .quorumState;
-              })),
-          (λ h.
-              let t = i .1 h in
-              record {
-                logs-are = t .replicaLog;
-                states-are = t .replicaState;
-                next-id = t .nextRecordId ∙ sym (m .nextRecordId);
-                quorum = t .quorumState ∙ sym (m .quorumState);
-                next-epoch = t .nextLeaderEpoch;
-                requests = t .leaderAndIsrRequests;
-              }),
-        )
+    put-only-iff = put-iff (u .nextRecordId) (nextRecordId s) (u .quorumState) (s .quorum) (m .nextRecordId) (m .quorumState)
 
   -- ---- a quorum at the next epoch, and its request
   module _ (leader : Leader) (isr : ℕ) (left : EpochLeft s) where

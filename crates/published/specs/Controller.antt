@@ -3,8 +3,8 @@
 use Prim.Native.Nat.{ℕ, _+_}
 use mathlib.Core.Path.{_≡_, refl, sym, _∙_, ap}
 use mathlib.Core.Bool.{Bool, true, false, not}
-use mathlib.Core.Option.{none, some}
-use mathlib.Core.Logic.{_↔_, _≢_, _⊎_, inl, inr}
+use mathlib.Core.Option.{some}
+use mathlib.Core.Logic.{_↔_, inl, inr}
 use native.Mathlib.Omega.{arith}
 use borrow.Author.Tests.{ne-eqb}
 use Rattle.logic.specs.Refuse.{refuse-zero, refuse-none}
@@ -19,7 +19,7 @@ use Rattle.cluster.specs.State.{maxLeaderEpoch, nextLeaderEpoch, controllerUpda
 use Rattle.cluster.specs.Actions.{epochsUsedUp, controllerShrinkIsrRefusal, shrinkBy, controllerShrinkIsr, controllerElectLeaderRefusal, controllerElectLeader}
 use Rattle.cluster.specs.Accepted.{EpochLeft, controller-shrink-accepted, elect-accepted}
 use Rattle.actions.specs.Sound.{Sound}
-use Rattle.published.specs.KafkaReplication.{Constants, ModelState, _isIn_, singleton, minus, UnchangedNextRecordId, UnchangedReplicaLog, UnchangedReplicaState, ControllerUpdateIsr, ControllerShrinkIsrWith, ControllerElectLeaderWith}
+use Rattle.published.specs.KafkaReplication.{Constants, ModelState, _isIn_, singleton, UnchangedNextRecordId, UnchangedReplicaLog, UnchangedReplicaState, ControllerUpdateIsr, ControllerShrinkIsrWith, ControllerElectLeaderWith}
 use Rattle.published.specs.Meaning.{constantsOf, leaderOf, meaning, Means}
 use Rattle.published.specs.Sets.{members-without, members-alone}
 use Rattle.published.specs.Reading.{leader-names-iff, refuted-iff, quorum-at}
@@ -114,19 +114,6 @@ module _ (s : State) (d : Sound (s .limits) s) (u : ModelState) (m : Means (s .l
   unfolding shrinkBy
   follows a n h = shrink-case a (s .quorum .leader) (without (s .quorum .isr) a) h (effect-by a false _ n refl)
 
-  -- the three cases of the source, of the quorum of s
-  abbrev Cases : ℕ → Type 0
-  Cases a =
-      ((leaderOf (s .quorum .leader) ≡ some a)
-      × (member (s .quorum .isr) ≡ singleton a)
-      × ControllerUpdateIsr k u v none (member (s .quorum .isr)))
-      ⊎ ((leaderOf (s .quorum .leader) ≡ some a)
-      × (member (s .quorum .isr) ≢ singleton a)
-      × ControllerUpdateIsr k u v none (minus (member (s .quorum .isr)) a))
-      ⊎ ((leaderOf (s .quorum .leader) ≢ some a)
-      × a isIn member (s .quorum .isr)
-      × ControllerUpdateIsr k u v (leaderOf (s .quorum .leader)) (minus (member (s .quorum .isr)) a))
-
   module _ (a : ℕ) where
     leads : leaderOf (s .quorum .leader) ≡ some a ↔ names (s .quorum .leader) a ≡ true
     leads = leader-names-iff (s .quorum .leader) a
@@ -134,32 +121,38 @@ module _ (s : State) (d : Sound (s .limits) s) (u : ModelState) (m : Means (s .l
     alone : member (s .quorum .isr) ≡ singleton a ↔ isAlone (s .quorum .isr) a ≡ true
     alone = (members-alone (s .quorum .isr) a .1, members-alone (s .quorum .isr) a .0)
 
-    shrink-to : Cases a → Rest → Shrinks a
-    shrink-to (inl x) r = leads-alone a (leads .0 (x .0)) (alone .0 (x .1)) .0 (x .2, r)
-    shrink-to (inr (inl x)) r =
-        leads-others a (leads .0 (x .0)) (refuted-iff _ alone .0 (x .1)) .0 (rw (members-without (s .quorum .isr) a) (x .2), r)
-    shrink-to (inr (inr x)) r =
-        follows a (refuted-iff _ leads .0 (x .0)) (x .1) .0 (rw (members-without (s .quorum .isr) a) (x .2), r)
+    -- the three cases of the source
+    shrink-to : ControllerShrinkIsrWith k u v a → Shrinks a
+    shrink-to t =
+        let c = rw (quorum-at s u m) at t in
+        let rest : Rest = (t .1, t .2, t .3) in
+        elim (c .0) [
+          | inl x ↦ leads-alone a (leads .0 (x .0)) (alone .0 (x .1)) .0 (x .2, rest)
+          | inr (inl x) ↦
+              leads-others a (leads .0 (x .0)) (refuted-iff _ alone .0 (x .1)) .0 (rw (members-without (s .quorum .isr) a) (x .2), rest)
+          | inr (inr x) ↦
+              follows a (refuted-iff _ leads .0 (x .0)) (x .1) .0 (rw (members-without (s .quorum .isr) a) (x .2), rest)
+        ]
 
-    shrink-from : Shrinks a → Cases a × Rest
+    shrink-from : Shrinks a → ControllerShrinkIsrWith k u v a
     shrink-from t = go (names (s .quorum .leader) a) (isAlone (s .quorum .isr) a) refl refl
       where
-        go : (x y : Bool) → names (s .quorum .leader) a ≡ x → isAlone (s .quorum .isr) a ≡ y → Cases a × Rest
-        go true true n h = let w = leads-alone a n h .1 t in (inl (leads .1 n, alone .1 h, w .0), w .1)
+        go : (x y : Bool) → names (s .quorum .leader) a ≡ x → isAlone (s .quorum .isr) a ≡ y → ControllerShrinkIsrWith k u v a
+        go true true n h =
+            let w = leads-alone a n h .1 t in
+            rw (quorum-at s u m) (inl (leads .1 n, alone .1 h, w .0), w .1 .0, w .1 .1, w .1 .2)
         go true false n h =
             let w = leads-others a n h .1 t in
-            (inr (inl (leads .1 n, refuted-iff _ alone .1 h, rw (← (members-without (s .quorum .isr) a)) (w .0))), w .1)
+            rw (quorum-at s u m, ← (members-without (s .quorum .isr) a))
+            (inr (inl (leads .1 n, refuted-iff _ alone .1 h, w .0)), w .1 .0, w .1 .1, w .1 .2)
         go false y n h =
             let i = controller-shrink-accepted s a (d .rules .s1) (t .0) .0 in
             let w = follows a n i .1 t in
-            (inr (inr (refuted-iff _ leads .1 n, i, rw (← (members-without (s .quorum .isr) a)) (w .0))), w .1)
+            rw (quorum-at s u m, ← (members-without (s .quorum .isr) a))
+            (inr (inr (refuted-iff _ leads .1 n, i, w .0)), w .1 .0, w .1 .1, w .1 .2)
 
     pub controller-shrink-iff : ControllerShrinkIsrWith k u v a ↔ Shrinks a
-    controller-shrink-iff =
-        rw (quorum-at s u m) (
-          (λ t. shrink-to (t .0) (t .1, t .2, t .3)),
-          (λ t. let w = shrink-from t in (w .0, w .1 .0, w .1 .1, w .1 .2)),
-        )
+    controller-shrink-iff = (shrink-to, shrink-from)
 
   -- ---- kind 1
   abbrev Elects : ℕ → Type 0

@@ -18,7 +18,7 @@ use Rattle.published.specs.KafkaReplication.{Constants, LeaderAndIsr, Mo
 use Rattle.published.specs.Meaning.{constantsOf, meaning, Means}
 use Rattle.published.specs.Choices.{SourceAction, SourceActionWith, UnusedZero, Choice}
 use Rattle.published.specs.Equality.{same-model-refl}
-use Rattle.published.specs.Engine.{engine-is-model}
+use Rattle.published.specs.Engine.{action-is-published}
 
 -- ---- a number of each kind; 9 is one of those of no kind
 unfoldable pub numberOf : Kind → ℕ
@@ -77,7 +77,7 @@ means-epochs c u s m request h =
     (q .0, ap (λ (r : LeaderAndIsr). r .leaderEpoch) (q .2))
 
 module _ (k : Constants) (u v : ModelState) where
-  -- every choice of the source is a number that an operand names, except that a request is named by its epoch
+  -- an operand names each replica that the source chooses, and a request by its epoch; other choices stay
   source-action-choices : RequestsHaveEpochs u → (kind : Kind) → SourceAction kind k u v
       → (a b e : ℕ) × UnusedZero kind a b e × SourceActionWith kind a b e k u v
   unfolding uses
@@ -177,9 +177,8 @@ pub enabled-iff : (s : State) → rules s ≡ true → (n : ℕ)
     ↔ ((v : ModelState) × SourceAction (kindOf n) (constantsOf (s .limits)) (meaning s) v)
 enabled-iff s met n =
     let k = constantsOf (s .limits) in
-    let same = same-model-refl k (meaning s) in
-    let engine = engine-is-model s met (meaning s) same in
-    let epochs = means-epochs (s .limits) (meaning s) s same in (
+    let engine = action-is-published s met in
+    let epochs = means-epochs (s .limits) (meaning s) s (same-model-refl k (meaning s)) in (
       (λ h.
           let action = actionOf n (h .0) (h .1) (h .2) in
           let v = meaning (act s action .state) in

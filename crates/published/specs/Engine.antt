@@ -28,7 +28,7 @@ use Rattle.published.specs.KafkaReplication.{Constants, ModelState}
 use Rattle.published.specs.Meaning.{constantsOf, meaning, Means}
 use Rattle.published.specs.Equality.{same-model-refl}
 use Rattle.published.specs.Choices.{SourceActionWith, UnusedZero, Choice}
-use Rattle.published.specs.Types.{isr-subset}
+use Rattle.published.specs.Types.{isr-below}
 use Rattle.published.specs.OneToOne.{means-tidy}
 use Rattle.published.specs.Controller.{controller-shrink-iff, elect-iff}
 use Rattle.published.specs.Requests.{become-leader-iff, become-follower-iff}
@@ -44,10 +44,10 @@ module _ (s : State) (d : Sound (s .limits) s) (u : ModelState) (m : Means (s .l
   R = replicaCount (s .limits)
 
   -- what the engine says of a kind and its operands
-  pub record Accepts (kind : Kind) (a b e : ℕ) : Type 0 where
-    pub operands : Operands (s .limits) kind a b
-    pub none-refuses : tableRefusal kind s a b e ≡ accepted
-    pub next : Means (s .limits) v (tableEffect kind s a b e)
+  record Accepts (kind : Kind) (a b e : ℕ) : Type 0 where
+    operands : Operands (s .limits) kind a b
+    none-refuses : tableRefusal kind s a b e ≡ accepted
+    next : Means (s .limits) v (tableEffect kind s a b e)
 
   -- an operand that is not used has no bound
   unused : {A : Type 0} → false ≡ true → A
@@ -65,7 +65,7 @@ module _ (s : State) (d : Sound (s .limits) s) (u : ModelState) (m : Means (s .l
     (λ t.
         let n = elect-iff s d u m v a .0 t in
         let i = elect-accepted s a (d .rules .s1) (n .0) .0 in
-        let l = ltb-true a R (isr-subset (s .limits) (s .quorum .isr) (d .rules .s1 .ranges .replicas) (d .rules .s2 .quorum .within) a i) in
+        let l = isr-below (s .limits) (s .quorum .isr) (d .rules .s1 .ranges .replicas) (d .rules .s2 .quorum .within) a i in
         record { operands = record { a-below = λ q. l; b-below = unused }; none-refuses = n .0; next = n .1 }),
     (λ t. elect-iff s d u m v a .1 (t .none-refuses, t .next)),
   )

@@ -3,13 +3,13 @@ use mathlib.Core.Path.{refl, sym, _∙_}
 use mathlib.Core.Logic.{Iff·rfl, Iff·symm, Iff·trans}
 use Rattle.published.specs.KafkaReplication.{Constants, Log, ModelState, SameLog, SameModelState}
 
-pub same-log-refl : (x : Log) → SameLog x x
+same-log-refl : (x : Log) → SameLog x x
 same-log-refl x = record { end = refl; entry = λ offset l. refl }
 
-pub same-log-sym : (x y : Log) → SameLog x y → SameLog y x
+same-log-sym : (x y : Log) → SameLog x y → SameLog y x
 same-log-sym x y m = record { end = sym (m .end); entry = λ offset l. sym (m .entry offset (rw (m .end) l)) }
 
-pub same-log-trans : (x y z : Log) → SameLog x y → SameLog y z → SameLog x z
+same-log-trans : (x y z : Log) → SameLog x y → SameLog y z → SameLog x z
 same-log-trans x y z m n =
     record { end = m .end ∙ n .end; entry = λ offset l. m .entry offset l ∙ n .entry offset (rw (m .end) at l) }
 

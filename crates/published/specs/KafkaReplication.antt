@@ -1,5 +1,5 @@
--- The published model: document 001, MODULE KafkaReplication, operator by operator, in its order and under its names. The
--- modules that it brings in are not in it; their operators stand where they are brought in, by the words of document 01.
+-- The published model: the source's MODULE KafkaReplication, operator by operator, in its order and under its names. The
+-- modules that it brings in are not in it; their operators stand before their first use, in the words of the paper.
 -- Nothing of the product is used here.
 --
 -- How the source is written, with u the state before an action and v the state after it:
@@ -59,7 +59,8 @@ pub record Constants : Type 0 where
 abbrev pub Replicas : Constants → ReplicaSet
 Replicas k r = ltb r (k .replicaCount)
 
--- None == "NONE" is none, which is no replica; Nil == -1
+-- None == "NONE" is none, which is no replica; Nil == -1. So what the source assumes holds: None \notin Replicas, and
+-- MaxLeaderEpoch \in Nat by its type
 abbrev pub Nil : ℤ
 Nil = negsuc 0
 
@@ -74,13 +75,13 @@ pub record Log : Type 0 where
   pub end : ℕ
   pub entry : ℕ → LogRecord
 
--- an entry of quorumState and of leaderAndIsrRequests
+-- the value of quorumState, and a member of leaderAndIsrRequests
 pub record LeaderAndIsr : Type 0 where
   pub leaderEpoch : ℤ
   pub leader : Option ℕ
   pub isr : ReplicaSet
 
--- an entry of replicaState
+-- the value of replicaState at a replica
 pub record LocalState : Type 0 where
   pub hw : ℕ
   pub leaderEpoch : ℤ
@@ -100,7 +101,7 @@ exceptIsr f r isr =
 abbrev pub requestsPlus : (LeaderAndIsr → Type 0) → LeaderAndIsr → LeaderAndIsr → Type 0
 requestsPlus set q request = set request ⊎ (request ≡ q)
 
--- ---- VARIABLES replicaLog, replicaState, nextRecordId, nextLeaderEpoch, leaderAndIsrRequests, quorumState
+-- ---- VARIABLES replicaLog, replicaState, nextRecordId, nextLeaderEpoch, leaderAndIsrRequests, quorumState; vars is all six
 pub record ModelState : Type 1 where
   pub replicaLog : ℕ → Log
   pub replicaState : ℕ → LocalState
@@ -156,7 +157,8 @@ LeaderEpochSeq·IdSet k = IdSet (k .MaxLeaderEpoch)
 abbrev pub LeaderEpochSeq·NextId : Constants → ModelState → ModelState → ℕ → Type 0
 LeaderEpochSeq·NextId k u v = NextId (k .MaxLeaderEpoch) (u .nextLeaderEpoch) (v .nextLeaderEpoch)
 
--- RecordSeq == INSTANCE IdSequence WITH MaxId <- MaxRecords - 1, nextId <- nextRecordId; "M from 1 to 64"
+-- RecordSeq == INSTANCE IdSequence WITH MaxId <- MaxRecords - 1, nextId <- nextRecordId; "M from 1 to 64", so M - 1 is not
+-- below 0
 abbrev pub RecordSeq·IdSet : Constants → ℕ → Type 0
 RecordSeq·IdSet k = IdSet (k .MaxRecords - 1)
 
@@ -414,10 +416,6 @@ IsFollowerCaughtUp k u leader follower endOffset =
     × ReplicaLog·HasEntry u leader record′ (endOffset - 1)
     × ReplicaLog·HasOffset u follower (endOffset - 1)))
 
--- followerHw == Min({leaderHw, newEndOffset}): leaderHw is the leader's, newEndOffset the follower's end plus 1
-abbrev pub followerHw : ModelState → ℕ → ℕ → ℕ
-followerHw u follower leader = Min (u .replicaState leader .hw) (ReplicaLog·GetEndOffset u follower + 1)
-
 module _ (k : Constants) (u v : ModelState) where
   -- LeaderShrinkIsr == \E leader \in Replicas : .. \E replica \in isr \ {leader} : ..
   abbrev pub LeaderShrinkIsrWith : ℕ → ℕ → Type 0
@@ -504,6 +502,11 @@ module _ (k : Constants) (u v : ModelState) where
       × u .leaderAndIsrRequests request
       × BecomeFollowerAndTruncateToWith leader replica truncationOffset request
 
+-- followerHw == Min({leaderHw, newEndOffset}): leaderHw is the leader's, newEndOffset the follower's end plus 1
+abbrev pub followerHw : ModelState → ℕ → ℕ → ℕ
+followerHw u follower leader = Min (u .replicaState leader .hw) (ReplicaLog·GetEndOffset u follower + 1)
+
+module _ (k : Constants) (u v : ModelState) where
   -- FollowerReplicate == \E follower, leader \in Replicas : ..
   abbrev pub FollowerReplicateWith : ℕ → ℕ → Type 0
   FollowerReplicateWith follower leader =

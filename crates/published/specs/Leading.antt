@@ -22,10 +22,10 @@ use Rattle.cluster.specs.Actions.{replicaPresumesLeadership, replicaIsFollowing
 use Rattle.cluster.specs.Accepted.{advance-accepted}
 use Rattle.actions.specs.Sound.{Sound}
 use Rattle.published.specs.KafkaReplication.{Constants, _isIn_, Replicas, minus, plus, exceptHw, exceptIsr, LocalState, LeaderAndIsr, ModelState, ReplicaLog·Offsets, ReplicaLog·HasOffset, ReplicaIsFollowing, IsFollowerCaughtUp, UnchangedNextRecordId, UnchangedReplicaLog, UnchangedNextLeaderEpoch, UnchangedRequests, QuorumUpdateLeaderAndIsr, LeaderShrinkIsrWith, LeaderExpandIsrWith, LeaderIncHighWatermarkWith}
-use Rattle.published.specs.Meaning.{constantsOf, leaderAndIsrOf, meaning, Means}
+use Rattle.published.specs.Meaning.{constantsOf, meaning, Means}
 use Rattle.published.specs.Sets.{members-without, members-including}
-use Rattle.published.specs.Types.{isr-subset}
-use Rattle.published.specs.Reading.{refuted-iff, state-at, log-at, quorum-at, following-iff, presumes-iff, true-leader-iff, caught-up-iff}
+use Rattle.published.specs.Types.{isr-below}
+use Rattle.published.specs.Reading.{refuted-iff, state-at, hw-at, log-at, quorum-at, following-iff, presumes-iff, true-leader-iff, caught-up-iff}
 use Rattle.published.specs.Changes.{except-same, except-other, Becomes, put-iff, put-only-iff}
 
 module _ (s : State) (d : Sound (s .limits) s) (u : ModelState) (m : Means (s .limits) u s) (v : ModelState) (a : ℕ) (l : a < replicaCount (s .limits)) where
@@ -44,12 +44,9 @@ module _ (s : State) (d : Sound (s .limits) s) (u : ModelState) (m : Means (s .l
   isr-is : u .replicaState a .isr ≡ member (own .isr)
   isr-is = ap (λ (p : LocalState). p .isr) (state-at s u m a l)
 
-  hw-is : u .replicaState a .hw ≡ own .hw
-  hw-is = ap (λ (p : LocalState). p .hw) (state-at s u m a l)
-
   -- a member of a's ISR is a replica
   member-below : (b : ℕ) → member (own .isr) b ≡ true → b < R
-  member-below b i = ltb-true b R (isr-subset (s .limits) (own .isr) (d .rules .s1 .ranges .replicas) (d .rules .s2 .replicas a l .within) b i)
+  member-below = isr-below (s .limits) (own .isr) (d .rules .s1 .ranges .replicas) (d .rules .s2 .replicas a l .within)
 
   -- ---- QuorumUpdateLeaderAndIsr, with all else unchanged
   abbrev Rest : Type 0
@@ -58,7 +55,7 @@ module _ (s : State) (d : Sound (s .limits) s) (u : ModelState) (m : Means (s .l
   abbrev states-with : ℕ → ℕ → LocalState
   states-with isr = exceptIsr (u .replicaState) a (member isr)
 
-  isr-changes : (isr : ℕ) → Becomes s d u m a (withIsr own isr) (u .replicaLog) (states-with isr)
+  isr-changes : (isr : ℕ) → Becomes u a (withIsr own isr) (u .replicaLog) (states-with isr)
   unfolding withIsr
   isr-changes isr =
       record {
@@ -70,6 +67,9 @@ module _ (s : State) (d : Sound (s .limits) s) (u : ModelState) (m : Means (s .l
         other-states = except-other (u .replicaState) a _;
       }
 
+  abbrev with-isr : ℕ → LeaderAndIsr → LeaderAndIsr
+  with-isr isr q = record { leaderEpoch = q .leaderEpoch; leader = q .leader; isr = member isr }
+
   abbrev quorum-with : ℕ → Quorum
   quorum-with isr = record { epoch = s .quorum .epoch; leader = s .quorum .leader; isr = isr }
 
@@ -78,26 +78,25 @@ module _ (s : State) (d : Sound (s .limits) s) (u : ModelState) (m : Means (s .l
   unfolding quorumUpdateLeaderAndIsr withQuorumIsr withReplica meaning
   update-iff isr =
       let leads = true-leader-iff s u m a l in
-      let put = put-iff s d u m a (withIsr own isr) (u .replicaLog) (states-with isr) (nextRecordId s) (quorum-with isr) (isr-changes isr) v in
-      let same : record { leaderEpoch = u .quorumState .leaderEpoch; leader = u .quorumState .leader; isr = member isr }
-      ≡ leaderAndIsrOf (s .quorum .epoch) (s .quorum .leader) isr =
-      ap (λ (q : LeaderAndIsr). record { leaderEpoch = q .leaderEpoch; leader = q .leader; isr = member isr }) (quorum-at s u m) in (
+      let put =
+      put-iff s d u m a (withIsr own isr) (u .replicaLog) (states-with isr) (u .nextRecordId) (nextRecordId s)
+      (with-isr isr (u .quorumState)) (quorum-with isr) (m .nextRecordId) (ap (with-isr isr) (quorum-at s u m)) (isr-changes isr) v in (
         (λ t. (
           leads .0 (t .0 .0),
           put .0
               (record {
                 replicaLog = t .1 .1;
                 replicaState = t .0 .3;
-                nextRecordId = t .1 .0 ∙ m .nextRecordId;
+                nextRecordId = t .1 .0;
                 nextLeaderEpoch = t .1 .2;
                 leaderAndIsrRequests = t .1 .3;
-                quorumState = t .0 .2 ∙ same;
+                quorumState = t .0 .2;
               }),
         )),
         (λ t.
             let n = put .1 (t .1) in
             let e = leads .1 (t .0) in
-            ((e, e .0, n .quorumState ∙ sym same, n .replicaState), (n .nextRecordId ∙ sym (m .nextRecordId), n .replicaLog, n .nextLeaderEpoch, n .leaderAndIsrRequests))),
+            ((e, e .0, n .quorumState, n .replicaState), (n .nextRecordId, n .replicaLog, n .nextLeaderEpoch, n .leaderAndIsrRequests))),
       )
 
   module _ (b : ℕ) where
@@ -178,7 +177,7 @@ module _ (s : State) (d : Sound (s .limits) s) (u : ModelState) (m : Means (s .l
         record { leads = not-false _ (p .0); outside = q .0; caught = not-false _ (refuse-zero _ _ _ (q .1) .0) }
 
     caught-iff : b < R → IsFollowerCaughtUp k u a b (u .replicaState a .hw) ↔ isFollowerCaughtUp s a b (own .hw) ≡ true
-    caught-iff lb = caught-up-iff s u m met a b l lb (u .replicaState a .hw) (own .hw) hw-is (d .rules .s5 a l .hw)
+    caught-iff lb = caught-up-iff s u m met a b l lb (u .replicaState a .hw) (own .hw) (hw-at s u m a l) (d .rules .s5 a l .hw)
 
     outside-iff : (¬ (b isIn member (own .isr))) ↔ member (own .isr) b ≡ false
     outside-iff = refuted-iff (member (own .isr) b) Iff·rfl
@@ -208,7 +207,7 @@ module _ (s : State) (d : Sound (s .limits) s) (u : ModelState) (m : Means (s .l
   abbrev states-raised : ℕ → LocalState
   states-raised = exceptHw (u .replicaState) a (u .replicaState a .hw + 1)
 
-  hw-rises : Becomes s d u m a (withHw own (own .hw + 1)) (u .replicaLog) states-raised
+  hw-rises : Becomes u a (withHw own (own .hw + 1)) (u .replicaLog) states-raised
   unfolding withHw
   hw-rises =
       record {
@@ -268,15 +267,15 @@ module _ (s : State) (d : Sound (s .limits) s) (u : ModelState) (m : Means (s .l
       let presumes = presumes-iff s u m a l in (
         (λ t.
             let b = t .2 in (
-              inc-accepted-by (presumes .0 (b .0)) (all-have-iff (t .0) (b .1 ∙ hw-is) .0 (b .2)),
+              inc-accepted-by (presumes .0 (b .0)) (all-have-iff (t .0) (b .1 ∙ hw-at s u m a l) .0 (b .2)),
               put .0
                   (record {
-                    logs-are = b .5;
-                    states-are = b .3;
-                    next-id = b .4;
-                    quorum = b .6;
-                    next-epoch = b .7;
-                    requests = b .8;
+                    replicaLog = b .5;
+                    replicaState = b .3;
+                    nextRecordId = b .4;
+                    quorumState = b .6;
+                    nextLeaderEpoch = b .7;
+                    leaderAndIsrRequests = b .8;
                   }),
             )),
         (λ t.
@@ -286,14 +285,14 @@ module _ (s : State) (d : Sound (s .limits) s) (u : ModelState) (m : Means (s .l
               hw-offset (t .0),
               (
                 presumes .1 (f .0),
-                sym hw-is,
+                sym (hw-at s u m a l),
                 all-have-iff (own .hw) refl .1 (f .1),
-                n .states-are,
-                n .next-id,
-                n .logs-are,
-                n .quorum,
-                n .next-epoch,
-                n .requests,
+                n .replicaState,
+                n .nextRecordId,
+                n .replicaLog,
+                n .quorumState,
+                n .nextLeaderEpoch,
+                n .leaderAndIsrRequests,
               ),
             )),
       )

@@ -26,10 +26,10 @@ use Rattle.published.specs.Reading.{state-at, log-at, following-iff, pre
 use Rattle.published.specs.Changes.{except-same, except-other, Becomes, put-iff, put-only-iff}
 
 -- a log with a record more at its end
-abbrev pub appended : Log → ℕ → LogRecord → Log
+abbrev appended : Log → ℕ → LogRecord → Log
 appended x offset r = record { end = offset + 1; entry = except (x .entry) offset r }
 
--- what it is for a log of the model is what it is for a replica
+-- a record more at the end of a log of the model is a record more at the end of the replica's
 append-log : (x : Log) (p : Replica) (offset : ℕ) (r : Record) → SameLog x (logOf p) → offset ≡ p .end → p .end < length (p .log)
     → SameLog (appended x offset (recordOf r)) (logOf (append p r))
 unfolding append
@@ -74,7 +74,7 @@ module _ (s : State) (d : Sound (s .limits) s) (u : ModelState) (m : Means (s .l
     written-is id q = λ i. record { id = q i; epoch = state-at s u m a l i .leaderEpoch }
 
     writes : (id offset : ℕ) → id ≡ nextRecordId s → offset ≡ own .end → own .end < logSize (s .limits)
-        → Becomes s d u m a (append own (nextRecord s a)) (logs-with (written id) offset) (u .replicaState)
+        → Becomes u a (append own (nextRecord s a)) (logs-with (written id) offset) (u .replicaState)
     unfolding append
     writes id offset q o room =
         record {
@@ -101,14 +101,15 @@ module _ (s : State) (d : Sound (s .limits) s) (u : ModelState) (m : Means (s .l
         let room : own .end < logSize (s .limits) = omega (arith, t .2 .0, o) in (
           accepted-by (t .0) (omega (arith, q, t .1 .1, d .rules .s1 .ranges .records-low)) room,
           put-iff s d u m a (append own (nextRecord s a)) (logs-with (written id) offset) (u .replicaState)
-              (nextRecordId s + 1) (s .quorum) (writes id offset q o room) v .0
+              (u .nextRecordId + 1) (nextRecordId s + 1) (u .quorumState) (s .quorum) (ap (λ n. n + 1) (m .nextRecordId)) (m .quorumState)
+              (writes id offset q o room) v .0
               (record {
                 replicaLog = t .2 .2;
                 replicaState = t .3;
-                nextRecordId = t .1 .2 ∙ ap (λ n. n + 1) (m .nextRecordId);
+                nextRecordId = t .1 .2;
                 nextLeaderEpoch = t .4;
                 leaderAndIsrRequests = t .6;
-                quorumState = t .5 ∙ m .quorumState;
+                quorumState = t .5;
               }),
         )
 
@@ -119,16 +120,17 @@ module _ (s : State) (d : Sound (s .limits) s) (u : ModelState) (m : Means (s .l
         let f = write-accepted s a h in
         let n =
         put-iff s d u m a (append own (nextRecord s a)) (logs-with (written (nextRecordId s)) (own .end)) (u .replicaState)
-        (nextRecordId s + 1) (s .quorum) (writes (nextRecordId s) (own .end) refl refl (f .room)) v .1 t in (
+        (u .nextRecordId + 1) (nextRecordId s + 1) (u .quorumState) (s .quorum) (ap (λ n. n + 1) (m .nextRecordId)) (m .quorumState)
+        (writes (nextRecordId s) (own .end) refl refl (f .room)) v .1 t in (
           omega (arith, f .id),
           f .room,
           (
             ap (λ (p : LocalState). p .leader) (state-at s u m a l) ∙ ap leaderOf (f .itself),
-            (sym (m .nextRecordId), omega (arith, f .id), n .nextRecordId ∙ ap (λ n. n + 1) (sym (m .nextRecordId))),
+            (sym (m .nextRecordId), omega (arith, f .id), n .nextRecordId),
             (f .room, sym (log-at s u m a l .end), n .replicaLog),
             n .replicaState,
             n .nextLeaderEpoch,
-            n .quorumState ∙ sym (m .quorumState),
+            n .quorumState,
             n .leaderAndIsrRequests,
           ),
         )
@@ -174,7 +176,7 @@ module _ (s : State) (d : Sound (s .limits) s) (u : ModelState) (m : Means (s .l
         })
 
     replicates : (r : LogRecord) (offset : ℕ) → r ≡ recordOf copied → offset ≡ own .end → own .end < logSize (s .limits)
-        → Becomes s d u m a replicated (logs-with r offset) states-with
+        → Becomes u a replicated (logs-with r offset) states-with
     unfolding withHw
     replicates r offset q o room =
         record {
@@ -204,12 +206,12 @@ module _ (s : State) (d : Sound (s .limits) s) (u : ModelState) (m : Means (s .l
           replicate-accepted-by (t .0) (t .1) (omega (arith, entry .0, log .end, o)),
           put-only-iff s d u m a replicated (logs-with r offset) states-with (replicates r offset q o (omega (arith, add .0, o))) v .0
               (record {
-                logs-are = add .2;
-                states-are = t .3;
-                next-id = t .4;
-                quorum = t .5;
-                next-epoch = t .6;
-                requests = t .7;
+                replicaLog = add .2;
+                replicaState = t .3;
+                nextRecordId = t .4;
+                quorumState = t .5;
+                nextLeaderEpoch = t .6;
+                leaderAndIsrRequests = t .7;
               }),
         )
 
@@ -231,13 +233,13 @@ module _ (s : State) (d : Sound (s .limits) s) (u : ModelState) (m : Means (s .l
             recordOf copied,
             own .end,
             (below, log .entry (own .end) below),
-            (room, sym (log-at s u m a l .end), n .logs-are),
+            (room, sym (log-at s u m a l .end), n .replicaLog),
           ),
-          n .states-are,
-          n .next-id,
-          n .quorum,
-          n .next-epoch,
-          n .requests,
+          n .replicaState,
+          n .nextRecordId,
+          n .quorumState,
+          n .nextLeaderEpoch,
+          n .leaderAndIsrRequests,
         )
 
   -- FollowerReplicate of follower a from leader b

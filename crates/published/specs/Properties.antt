@@ -19,7 +19,7 @@ use Rattle.questions.specs.Isr.{weakIsr, strongIsr}
 use Rattle.questions.specs.IsrTheorems.{HoldSameRecord, weak-holds, strong-holds}
 use Rattle.published.specs.KafkaReplication.{_isIn_, Replicas, ReplicaPresumesLeadership, HaveOneEntry, WeakIsr, StrongIsr}
 use Rattle.published.specs.Meaning.{constantsOf, leaderOf, recordOf, meaning}
-use Rattle.published.specs.Types.{isr-subset, log-record-ok}
+use Rattle.published.specs.Types.{isr-below, log-record-ok}
 use Rattle.published.specs.OneToOne.{record-of-injective}
 use Rattle.published.specs.Reading.{leader-names-iff, refuted-iff}
 
@@ -74,7 +74,7 @@ module _ (s : State) (isr : ℕ → ℕ) where
       answered-by r l (inr (inl z)) m offset e i o = absurd (omega arith)
       answered-by r l (inr (inr f)) m offset e i o =
           let five = rules-iff s .0 h .s1 .ranges .replicas in
-          let k = ltb-true m (replicaCount (s .limits)) (isr-subset (s .limits) (isr r) five (within r l) m i) in
+          let k = isr-below (s .limits) (isr r) five (within r l) m i in
           same-of s r m offset l k (f m offset i o)
 
       property-iff : ((r m offset : ℕ) → r < replicaCount (s .limits) → replicaAt s r .leader ≡ Broker r → member (isr r) m ≡ true

@@ -4,7 +4,7 @@ use Prim.Native.Nat.{ℕ, _-_, _≤_, _<_}
 use mathlib.Core.Path.{_≡_, refl, sym, _∙_, ap, subst}
 use mathlib.Core.Bool.{Bool, true, false, not}
 use mathlib.Core.Option.{some}
-use mathlib.Core.Logic.{_↔_, _⊎_, inl, inr}
+use mathlib.Core.Logic.{_↔_, inl, inr}
 use native.Mathlib.Omega.{arith}
 use native.Mathlib.Decide.{ℕ-discrete}
 use lib.Dec.{T}
@@ -21,7 +21,7 @@ use Rattle.cluster.specs.declared.State.{State}
 use Rattle.cluster.specs.Rules.{rules}
 use Rattle.cluster.specs.State.{replicaCount, replicaAt}
 use Rattle.cluster.specs.Actions.{replicaPresumesLeadership, replicaIsFollowing, isTrueLeaderTests, isTrueLeader, isFollowerCaughtUp, epochNotAbove}
-use Rattle.published.specs.KafkaReplication.{Constants, ModelState, SameLog, LogRecord, LogRecords, ReplicaLog·HasEntry, ReplicaLog·HasOffset, ReplicaPresumesLeadership, ReplicaIsFollowing, IsTrueLeader, IsFollowerCaughtUp}
+use Rattle.published.specs.KafkaReplication.{Constants, LocalState, ModelState, SameLog, LogRecords, ReplicaPresumesLeadership, ReplicaIsFollowing, IsTrueLeader, IsFollowerCaughtUp}
 use Rattle.published.specs.Meaning.{constantsOf, leaderOf, logOf, localStateOf, leaderAndIsrOf, meaning, Means}
 use Rattle.published.specs.Types.{log-record-ok}
 use Rattle.published.specs.OneToOne.{leader-of-injective}
@@ -32,7 +32,7 @@ leader-names-iff l b =
     let n = names-iff l b in
     ((λ e. n .1 (leader-of-injective l (Broker b) e)), (λ e. ap leaderOf (n .0 e)))
 
--- what a test decides, and what fails where it fails
+-- what a test decides does not hold exactly where the test is false
 pub refuted-iff : {A : Type 0} (b : Bool) → A ↔ b ≡ true → (¬ A) ↔ b ≡ false
 refuted-iff true h = ((λ n. absurd (n (h .1 refl))), (λ e. absurd (true-false e)))
 refuted-iff false h = ((λ n. refl), (λ e a. true-false (sym (h .0 a))))
@@ -52,6 +52,9 @@ module _ (s : State) (u : ModelState) (m : Means (s .limits) u s) where
   pub state-at : (r : ℕ) → r < R → u .replicaState r ≡ localStateOf (replicaAt s r)
   unfolding meaning
   state-at r l = m .replicaState r (lt-ltb r R l)
+
+  pub hw-at : (r : ℕ) → r < R → u .replicaState r .hw ≡ replicaAt s r .hw
+  hw-at r l = ap (λ (p : LocalState). p .hw) (state-at r l)
 
   pub log-at : (r : ℕ) → r < R → SameLog (u .replicaLog r) (logOf (replicaAt s r))
   unfolding meaning
@@ -106,17 +109,11 @@ module _ (s : State) (u : ModelState) (m : Means (s .limits) u s) where
         rw (log-at leader l .entry offset (omega (arith, log-at leader l .end))) (log-record-ok s h leader offset l o)
 
     caught-up-to : (n : ℕ) → IsFollowerCaughtUp k u leader follower n → n ≤ replicaAt s follower .end
-    caught-up-to n t = go (t .1)
-      where
-        go : (n ≡ 0)
-            ⊎ ((0 < n)
-            × (record′ : LogRecord)
-            × LogRecords k record′
-            × ReplicaLog·HasEntry u leader record′ (n - 1)
-            × ReplicaLog·HasOffset u follower (n - 1))
-            → n ≤ replicaAt s follower .end
-        go (inl z) = omega (arith, z)
-        go (inr t) = omega (arith, t .0, t .4, log-at follower lf .end)
+    caught-up-to n t =
+        elim (t .1) [
+          | inl z ↦ omega (arith, z)
+          | inr w ↦ omega (arith, w .0, w .4, log-at follower lf .end)
+        ]
 
     caught-up-at : (n : ℕ) → n ≤ replicaAt s leader .end → IsFollowerCaughtUp k u leader follower n ↔ isFollowerCaughtUp s leader follower n ≡ true
     unfolding isFollowerCaughtUp

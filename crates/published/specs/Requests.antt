@@ -1,18 +1,17 @@
 -- Kinds 2 and 3, BecomeLeader and BecomeFollowerAndTruncateTo: the source's action with the request of epoch e as its choice,
 -- and replica a as the follower, is the engine's. Assumes nothing.
-use Prim.Native.Nat.{ℕ, _<_, min}
-use mathlib.Core.Path.{_≡_, refl, sym, _∙_, ap}
+use Prim.Native.Nat.{ℕ, _≤_, _<_, min}
+use mathlib.Core.Path.{_≡_, refl, sym, _∙_, ap, subst}
 use mathlib.Core.Bool.{true, false}
 use mathlib.Core.Option.{Option, none, some, Option·none-ne-some, Option·some-injective}
-use mathlib.Core.Logic.{_↔_, _≢_, _⊎_, inl, inr}
+use mathlib.Core.Logic.{_↔_, _≢_, _⊎_, inl, inr, Iff·rfl}
 use native.Mathlib.Omega.{arith}
 use lib.IntN.{pos}
-use lib.Signed.{_<ℤ_}
 use borrow.Author.Tests.{lt-leb, lt-ltb, ltb-true}
-use Rattle.logic.specs.Refuse.{refuse, refuse-zero, refuse-none}
+use Rattle.logic.specs.Refuse.{refuse-zero, refuse-none}
 use Rattle.parts.specs.declared.Leader.{Leader}
 use Rattle.parts.specs.declared.Leader.the-variants.{None, Broker}
-use Rattle.parts.specs.Refusal.{accepted, epochNotHigher}
+use Rattle.parts.specs.Refusal.{accepted}
 use Rattle.parts.specs.Isr.{member}
 use Rattle.parts.specs.EpochLaws.{pos-injective}
 use Rattle.replica.specs.declared.Replica.{Replica}
@@ -21,15 +20,15 @@ use Rattle.replica.specs.ReplicaLaws.{tidy-replica-same}
 use Rattle.replica.specs.Change.{withHw, withEnd, withRequest, truncateTo, truncateUnder, becomeFollowerAndTruncateTo}
 use Rattle.parts.specs.Leader.{names}
 use Rattle.cluster.specs.declared.State.{State}
-use Rattle.cluster.specs.State.{replicaCount, nextLeaderEpoch, requestAt, replicaAt, withReplica}
+use Rattle.cluster.specs.State.{replicaCount, nextLeaderEpoch, requestAt, replicaAt}
 use Rattle.cluster.specs.Actions.{epochNotAbove, leaderRefusal, becomeLeaderRefusal, leadBy, becomeLeader, becomeFollowerRefusal, becomeFollower, becomeFollowerAndTruncateToHw, requestMissing}
 use Rattle.cluster.specs.Accepted.{become-leader-accepted, become-follower-accepted}
 use Rattle.actions.specs.Sound.{Sound}
 use Rattle.published.specs.KafkaReplication.{Constants, _isIn_, Replicas, ReplicaOpt, except, Log, LocalState, LeaderAndIsr, ModelState, SameLog, SameLogs, ReplicaLog·TruncateTo, Min, UnchangedReplicaLog, BecomeLeaderWith, BecomeFollowerAndTruncateToWith}
 use Rattle.published.specs.Meaning.{constantsOf, leaderOf, recordOf, logOf, requestOf, meaning, Means}
 use Rattle.published.specs.Types.{leader-opt}
-use Rattle.published.specs.Reading.{leader-names-iff, refuted-iff, state-at, log-at, epoch-above-iff}
-use Rattle.published.specs.Changes.{except-same, except-other, Becomes, PutOnly, put-only-iff}
+use Rattle.published.specs.Reading.{leader-names-iff, refuted-iff, state-at, hw-at, log-at, epoch-above-iff}
+use Rattle.published.specs.Changes.{except-same, except-other, Becomes, put-only-iff}
 
 module _ (s : State) (d : Sound (s .limits) s) (u : ModelState) (m : Means (s .limits) u s) (v : ModelState) where
   abbrev k : Constants
@@ -39,9 +38,9 @@ module _ (s : State) (d : Sound (s .limits) s) (u : ModelState) (m : Means (s .l
   R = replicaCount (s .limits)
 
   -- ---- the request of epoch e
-  pub record Sent (request : LeaderAndIsr) (e : ℕ) : Type 0 where
-    pub used : e < nextLeaderEpoch s
-    pub is : request ≡ requestOf s e
+  record Sent (request : LeaderAndIsr) (e : ℕ) : Type 0 where
+    used : e < nextLeaderEpoch s
+    is : request ≡ requestOf s e
 
   -- a request of the model with this epoch is that of s
   sent-of : (request : LeaderAndIsr) (e : ℕ) → u .leaderAndIsrRequests request → request .leaderEpoch ≡ pos e → Sent request e
@@ -71,7 +70,7 @@ module _ (s : State) (d : Sound (s .limits) s) (u : ModelState) (m : Means (s .l
   abbrev states-led : ℕ → ℕ → ℕ → LocalState
   states-led b e = except (u .replicaState) b (led b (requestOf s e) (u .replicaState b))
 
-  leads : (b e : ℕ) → b < R → Becomes s d u m b (leader-after b e) (u .replicaLog) (states-led b e)
+  leads : (b e : ℕ) → b < R → Becomes u b (leader-after b e) (u .replicaLog) (states-led b e)
   unfolding withRequest
   leads b e l =
       record {
@@ -89,38 +88,36 @@ module _ (s : State) (d : Sound (s .limits) s) (u : ModelState) (m : Means (s .l
     (λ t. absurd (Option·none-ne-some (t .0) (sym (ap leaderOf q) ∙ t .1))),
     (λ t. absurd (omega (arith, t .0))),
   )
-  lead-iff e l (Broker b) q = (to, from)
-    where
-      low : b < R
-      low = d .rules .s2 .requests e l .below b q
-
-      above : u .replicaState b .leaderEpoch <ℤ pos e ↔ epochNotAbove s b e ≡ false
-      above = epoch-above-iff s u m b e low
-
-      put : PutOnly s d u m b (leader-after b e) (u .replicaLog) (states-led b e) v ↔ Means (s .limits) v (withReplica s b (leader-after b e))
-      put = put-only-iff s d u m b (leader-after b e) (u .replicaLog) (states-led b e) (leads b e low) v
-
-      to : BecomeLeaderWith k u v (requestOf s e)
-          → (refuse (epochNotAbove s b e) epochNotHigher accepted ≡ accepted) × Means (s .limits) v (withReplica s b (leader-after b e))
-      to t =
-          let i : t .0 ≡ b = sym (Option·some-injective b (t .0) (sym (ap leaderOf q) ∙ t .1)) in (
-            refuse-none _ _ _ (above .0 (rw i at (t .2))) refl,
-            put .0
-                (record {
-                  logs-are = t .5;
-                  states-are = rw i at (t .3);
-                  next-id = t .4;
-                  quorum = t .6;
-                  next-epoch = t .7;
-                  requests = t .8;
-                }),
-          )
-
-      from : (refuse (epochNotAbove s b e) epochNotHigher accepted ≡ accepted) × Means (s .limits) v (withReplica s b (leader-after b e))
-          → BecomeLeaderWith k u v (requestOf s e)
-      from t =
-          let n = put .1 (t .1) in
-          (b, ap leaderOf q, above .1 (refuse-zero _ _ _ (t .0) .0), n .states-are, n .next-id, n .logs-are, n .quorum, n .next-epoch, n .requests)
+  lead-iff e l (Broker b) q =
+      let low = d .rules .s2 .requests e l .below b q in
+      let above = epoch-above-iff s u m b e low in
+      let put = put-only-iff s d u m b (leader-after b e) (u .replicaLog) (states-led b e) (leads b e low) v in (
+        (λ t.
+            let i : t .0 ≡ b = sym (Option·some-injective b (t .0) (sym (ap leaderOf q) ∙ t .1)) in (
+              refuse-none _ _ _ (above .0 (rw i at (t .2))) refl,
+              put .0
+                  (record {
+                    replicaLog = t .5;
+                    replicaState = rw i at (t .3);
+                    nextRecordId = t .4;
+                    nextLeaderEpoch = t .7;
+                    leaderAndIsrRequests = t .8;
+                    quorumState = t .6;
+                  }),
+            )),
+        (λ t.
+            let n = put .1 (t .1) in (
+              b,
+              ap leaderOf q,
+              above .1 (refuse-zero _ _ _ (t .0) .0),
+              n .replicaState,
+              n .nextRecordId,
+              n .replicaLog,
+              n .quorumState,
+              n .nextLeaderEpoch,
+              n .leaderAndIsrRequests,
+            )),
+      )
 
   -- BecomeLeader with the request of epoch e
   abbrev Leads : ℕ → Type 0
@@ -139,55 +136,51 @@ module _ (s : State) (d : Sound (s .limits) s) (u : ModelState) (m : Means (s .l
         (requestOf s e, sent-in e (f .0), refl, lead-iff e (f .0) (requestAt s e .leader) refl .1 (f .1, t .1))),
   )
 
-  -- ---- kind 3, with a's own high watermark as the truncation offset
-  module _ (a e : ℕ) (l : a < R) (used : e < nextLeaderEpoch s) where
+  -- ---- kind 3, with any truncation offset that is at most a's end
+  module _ (a e truncationOffset : ℕ) (l : a < R) (used : e < nextLeaderEpoch s) (fits : truncationOffset ≤ replicaAt s a .end) where
     abbrev own : Replica
     own = replicaAt s a
 
-    -- the local state that a follower takes from request e, and its log under a leader
+    -- the local state that a follower takes from request e
     abbrev followed : LocalState → LocalState
     followed p =
         record {
-          hw = Min (p .hw) (p .hw);
+          hw = Min truncationOffset (p .hw);
           leaderEpoch = pos e;
           leader = leaderOf (requestAt s e .leader);
           isr = member (requestAt s e .isr);
         }
 
     abbrev follower-after : Replica
-    follower-after = becomeFollowerAndTruncateTo own (pos e) (requestAt s e .leader) (requestAt s e .isr) (own .hw)
+    follower-after = becomeFollowerAndTruncateTo own (pos e) (requestAt s e .leader) (requestAt s e .isr) truncationOffset
 
     abbrev states-followed : ℕ → LocalState
     states-followed = except (u .replicaState) a (followed (u .replicaState a))
 
+    -- its log cut to the offset, and the logs by the leader of the request
     abbrev cut : Log
-    cut = record { end = u .replicaState a .hw; entry = u .replicaLog a .entry }
+    cut = record { end = truncationOffset; entry = u .replicaLog a .entry }
 
     abbrev logs-under : Leader → ℕ → Log
     logs-under None = u .replicaLog
     logs-under (Broker b) = except (u .replicaLog) a cut
 
-    hw-is : u .replicaState a .hw ≡ own .hw
-    hw-is = ap (λ (p : LocalState). p .hw) (state-at s u m a l)
-
-    -- a log cut to the high watermark is that of the replica cut to it
-    cut-log : SameLog cut (logOf (truncateTo own (own .hw)))
+    -- a log of the model that is cut is that of the replica cut there
+    cut-log : SameLog cut (logOf (truncateTo own truncationOffset))
     unfolding truncateTo withEnd tidyReplica
     cut-log =
-        let low = d .rules .s5 a l .hw in
         record {
-          end = hw-is ∙ omega (arith, low);
+          end = omega (arith, fits);
           entry = λ offset h.
-              let below : offset < own .hw = rw hw-is at h in
-              log-at s u m a l .entry offset (omega (arith, log-at s u m a l .end, below, low))
+              log-at s u m a l .entry offset (omega (arith, log-at s u m a l .end, h, fits))
               ∙ ap recordOf
               (sym
-              (tidy-replica-same (withEnd own (min (own .hw) (own .end))) .log offset
-              (omega (arith, below, low, d .rules .s2 .ends a l, d .rules .s1 .ranges .log))
-              (omega (arith, below, low))));
+              (tidy-replica-same (withEnd own (min truncationOffset (own .end))) .log offset
+              (omega (arith, h, fits, d .rules .s2 .ends a l, d .rules .s1 .ranges .log))
+              (omega (arith, h, fits))));
         }
 
-    follower-log : (leader : Leader) → SameLog (logs-under leader a) (logOf (truncateUnder leader own (own .hw)))
+    follower-log : (leader : Leader) → SameLog (logs-under leader a) (logOf (truncateUnder leader own truncationOffset))
     unfolding truncateUnder
     follower-log None = log-at s u m a l
     follower-log (Broker b) = rw (except-same (u .replicaLog) a cut) cut-log
@@ -196,7 +189,7 @@ module _ (s : State) (d : Sound (s .limits) s) (u : ModelState) (m : Means (s .l
     other-log None r n = refl
     other-log (Broker b) r n = except-other (u .replicaLog) a cut r n
 
-    follows : Becomes s d u m a follower-after (logs-under (requestAt s e .leader)) states-followed
+    follows : Becomes u a follower-after (logs-under (requestAt s e .leader)) states-followed
     unfolding becomeFollowerAndTruncateTo withRequest withHw
     follows =
         record {
@@ -210,26 +203,20 @@ module _ (s : State) (d : Sound (s .limits) s) (u : ModelState) (m : Means (s .l
     abbrev LogCases : Leader → Type 0
     LogCases leader =
         ((leaderOf leader ≡ none) × UnchangedReplicaLog k u v)
-        ⊎ ((leaderOf leader ≢ none) × ReplicaLog·TruncateTo k u v a (u .replicaState a .hw))
+        ⊎ ((leaderOf leader ≢ none) × ReplicaLog·TruncateTo k u v a truncationOffset)
 
     log-cases-iff : (leader : Leader) → LogCases leader ↔ SameLogs k (v .replicaLog) (logs-under leader)
-    log-cases-iff None = (to, (λ h. inl (refl, h)))
-      where
-        to : LogCases None → SameLogs k (v .replicaLog) (u .replicaLog)
-        to (inl h) = h .1
-        to (inr h) = absurd (h .0 refl)
-    log-cases-iff (Broker b) =
-        (to, (λ h. inr ((λ q. Option·none-ne-some b (sym q)), (omega (arith, hw-is, log-at s u m a l .end, d .rules .s5 a l .hw), h))))
-      where
-        to : LogCases (Broker b) → SameLogs k (v .replicaLog) (except (u .replicaLog) a cut)
-        to (inl h) = absurd (Option·none-ne-some b (sym (h .0)))
-        to (inr h) = h .1 .1
+    log-cases-iff None = ((λ t. elim t [ inl h ↦ h .1 | inr h ↦ absurd (h .0 refl) ]), (λ h. inl (refl, h)))
+    log-cases-iff (Broker b) = (
+      (λ t. elim t [ inl h ↦ absurd (Option·none-ne-some b (sym (h .0))) | inr h ↦ h .1 .1 ]),
+      (λ h. inr ((λ q. Option·none-ne-some b (sym q)), (omega (arith, log-at s u m a l .end, fits), h))),
+    )
 
-    leads-not : leaderOf (requestAt s e .leader) ≡ some a ↔ names (requestAt s e .leader) a ≡ true
-    leads-not = leader-names-iff (requestAt s e .leader) a
+    request-names : leaderOf (requestAt s e .leader) ≡ some a ↔ names (requestAt s e .leader) a ≡ true
+    request-names = leader-names-iff (requestAt s e .leader) a
 
     abbrev Follows : Type 0
-    Follows = (becomeFollowerRefusal s a e ≡ accepted) × Means (s .limits) v (becomeFollowerAndTruncateToHw s a e)
+    Follows = (becomeFollowerRefusal s a e ≡ accepted) × Means (s .limits) v (becomeFollower s a e truncationOffset)
 
     accepted-by : names (requestAt s e .leader) a ≡ false → epochNotAbove s a e ≡ false → becomeFollowerRefusal s a e ≡ accepted
     unfolding becomeFollowerRefusal
@@ -241,37 +228,46 @@ module _ (s : State) (d : Sound (s .limits) s) (u : ModelState) (m : Means (s .l
         let p = refuse-zero _ _ _ (refuse-zero _ _ _ h .1) in
         (p .0, refuse-zero _ _ _ (p .1) .0)
 
-    follow-iff : BecomeFollowerAndTruncateToWith k u v (leaderOf (requestAt s e .leader)) a (u .replicaState a .hw) (requestOf s e) ↔ Follows
-    unfolding becomeFollowerAndTruncateToHw becomeFollower
+    pub follow-iff : BecomeFollowerAndTruncateToWith k u v (leaderOf (requestAt s e .leader)) a truncationOffset (requestOf s e) ↔ Follows
+    unfolding becomeFollower
     follow-iff =
         let above = epoch-above-iff s u m a e l in
         let put = put-only-iff s d u m a follower-after (logs-under (requestAt s e .leader)) states-followed follows v in (
           (λ t. (
-            accepted-by (refuted-iff _ leads-not .0 (t .0)) (above .0 (t .2)),
+            accepted-by (refuted-iff _ request-names .0 (t .0)) (above .0 (t .2)),
             put .0
                 (record {
-                  logs-are = log-cases-iff (requestAt s e .leader) .0 (t .3);
-                  states-are = t .4;
-                  next-id = t .5;
-                  quorum = t .6;
-                  next-epoch = t .7;
-                  requests = t .8;
+                  replicaLog = log-cases-iff (requestAt s e .leader) .0 (t .3);
+                  replicaState = t .4;
+                  nextRecordId = t .5;
+                  quorumState = t .6;
+                  nextLeaderEpoch = t .7;
+                  leaderAndIsrRequests = t .8;
                 }),
           )),
           (λ t.
               let f = accepted-says (t .0) in
               let n = put .1 (t .1) in (
-                refuted-iff _ leads-not .1 (f .0),
+                refuted-iff _ request-names .1 (f .0),
                 refl,
                 above .1 (f .1),
-                log-cases-iff (requestAt s e .leader) .1 (n .logs-are),
-                n .states-are,
-                n .next-id,
-                n .quorum,
-                n .next-epoch,
-                n .requests,
+                log-cases-iff (requestAt s e .leader) .1 (n .replicaLog),
+                n .replicaState,
+                n .nextRecordId,
+                n .quorumState,
+                n .nextLeaderEpoch,
+                n .leaderAndIsrRequests,
               )),
         )
+
+  -- the offset is a's own high watermark, in the model and in s
+  hw-offset : (a : ℕ) (leader : Option ℕ) (request : LeaderAndIsr) → a < R
+      → BecomeFollowerAndTruncateToWith k u v leader a (u .replicaState a .hw) request
+      ↔ BecomeFollowerAndTruncateToWith k u v leader a (replicaAt s a .hw) request
+  hw-offset a leader request l =
+      subst
+      (λ n. BecomeFollowerAndTruncateToWith k u v leader a (u .replicaState a .hw) request ↔ BecomeFollowerAndTruncateToWith k u v leader a n request)
+      (hw-at s u m a l) Iff·rfl
 
   -- BecomeFollowerAndTruncateTo of replica a with the request of epoch e
   pub become-follower-iff : (a e : ℕ)
@@ -283,12 +279,13 @@ module _ (s : State) (d : Sound (s .limits) s) (u : ModelState) (m : Means (s .l
       × (request .leaderEpoch ≡ pos e)
       × BecomeFollowerAndTruncateToWith k u v leader a (u .replicaState a .hw) request)
       ↔ (a < R) × (becomeFollowerRefusal s a e ≡ accepted) × Means (s .limits) v (becomeFollowerAndTruncateToHw s a e)
+  unfolding becomeFollowerAndTruncateToHw
   become-follower-iff a e = (
     (λ t.
         let low : a < R = ltb-true a R (t .2) in
         let h = sent-of (t .3) e (t .4) (t .5) in
-        let body = rw (sym (t .6 .1), h .is) at (t .6) in
-        let n = follow-iff a e low (h .used) .0 body in
+        let body = rw (sym (t .6 .1), h .is) at (hw-offset a (t .0) (t .3) low .0 (t .6)) in
+        let n = follow-iff a e (replicaAt s a .hw) low (h .used) (d .rules .s5 a low .hw) .0 body in
         (low, n .0, n .1)),
     (λ t.
         let used = become-follower-accepted s a e (t .1) in (
@@ -298,6 +295,6 @@ module _ (s : State) (d : Sound (s .limits) s) (u : ModelState) (m : Means (s .l
           requestOf s e,
           sent-in e used,
           refl,
-          follow-iff a e (t .0) used .1 (t .1, t .2),
+          hw-offset a _ _ (t .0) .1 (follow-iff a e (replicaAt s a .hw) (t .0) used (d .rules .s5 a (t .0) .hw) .1 (t .1, t .2)),
         )),
   )

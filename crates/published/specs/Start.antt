@@ -85,7 +85,7 @@ none-or-in-isr epoch None isr f = inl refl
 none-or-in-isr epoch (Broker b) isr f = inr (b, refl, f b refl)
 
 pub leader-none-or-in-isr : (s : State) → rules s ≡ true
-    → NoneOrInIsr (meaning s .quorumState) × ((request : LeaderAndIsr) → meaning s .leaderAndIsrRequests request → NoneOrInIsr request)
+    → ((meaning s .quorumState .leader ≡ none) ⊎ LeaderInIsr (meaning s)) × ((request : LeaderAndIsr) → meaning s .leaderAndIsrRequests request → NoneOrInIsr request)
 unfolding meaning
 leader-none-or-in-isr s h = (
   none-or-in-isr (s .quorum .epoch) (s .quorum .leader) (s .quorum .isr) (met .s4 .quorum),
