@@ -23,7 +23,7 @@ use Rattle.cluster.specs.Actions.{controllerShrinkIsrRefusal, shrinkBy, control
 use Rattle.cluster.specs.declared.Kind.{Kind}
 use Rattle.cluster.specs.declared.Kind.the-variants.{ControllerShrinkIsr, ControllerElectLeader, BecomeLeader, BecomeFollower, LeaderWrite, LeaderShrinkIsr, LeaderExpandIsr, LeaderIncHighWatermark, FollowerReplicate, Unknown}
 use Rattle.cluster.specs.Act.{uses, tableRefusal, tableEffect}
-use Rattle.cluster.specs.Accepted.{Operands, EpochLeft, TrueLeader, controller-shrink-accepted, elect-accepted, become-leader-accepted, become-follower-accepted, write-accepted, leader-shrink-accepted, leader-expand-accepted, advance-accepted, replicate-accepted}
+use Rattle.cluster.specs.Accepted.{Operands, EpochLeft, TrueLeader, presumes-itself, true-leader, controller-shrink-accepted, elect-accepted, become-leader-accepted, become-follower-accepted, write-accepted, leader-shrink-accepted, leader-expand-accepted, own-hw, replicate-accepted}
 use Rattle.actions.specs.Records.{old, written}
 use Rattle.actions.specs.Sound.{Sound}
 use Rattle.actions.specs.Put.{replica-fits, put-sound, put-only-sound}
@@ -61,13 +61,13 @@ module _ (c : Limits) (s : State) (d : Sound c s) where
   controller-shrink-sound : (a : ℕ) → controllerShrinkIsrRefusal s a ≡ accepted → Sound c (controllerShrinkIsr s a)
   unfolding controllerShrinkIsr
   controller-shrink-sound a h =
-      shrink-by-sound a (controller-shrink-accepted s a (r .s1) h .1) (names (s .quorum .leader) a) (isAlone (s .quorum .isr) a) refl
+      shrink-by-sound a (controller-shrink-accepted s a (r .s1) .0 h .1) (names (s .quorum .leader) a) (isAlone (s .quorum .isr) a) refl
 
   elect-sound : (a : ℕ) → a < R → controllerElectLeaderRefusal s a ≡ accepted → Sound c (controllerElectLeader s a)
   unfolding controllerElectLeader
   elect-sound a l h =
-      let f = elect-accepted s a (r .s1) h in
-      request-sound c s d (Broker a) (s .quorum .isr) (f .1)
+      let f = elect-accepted s a (r .s1) .0 h in
+      request-sound c s d (Broker a) (s .quorum .isr) (f .2)
       (record { below = λ b q. rw (broker-injective a b q) at l; within = r .s2 .quorum .within })
       (λ b q. rw (broker-injective a b q) at (f .0))
 
@@ -85,7 +85,7 @@ module _ (c : Limits) (s : State) (d : Sound c s) where
   become-leader-sound : (e : ℕ) → becomeLeaderRefusal s e ≡ accepted → Sound c (becomeLeader s e)
   unfolding becomeLeader
   become-leader-sound e h =
-      let f = become-leader-accepted s e h in
+      let f = become-leader-accepted s e .0 h in
       lead-by-sound e (f .0) (requestAt s e .leader) refl (f .1)
 
   -- with any truncation offset
@@ -98,7 +98,7 @@ module _ (c : Limits) (s : State) (d : Sound c s) where
 
   become-follower-sound : (a e : ℕ) → a < R → becomeFollowerRefusal s a e ≡ accepted → Sound c (becomeFollowerAndTruncateToHw s a e)
   unfolding becomeFollowerAndTruncateToHw
-  become-follower-sound a e l h = become-follower-at-sound a e (replicaAt s a .hw) l (become-follower-accepted s a e h)
+  become-follower-sound a e l h = become-follower-at-sound a e (replicaAt s a .hw) l (become-follower-accepted s a e .0 h .0)
 
   -- ---- kind 4
   -- the record that a presuming replica writes is in use
@@ -116,14 +116,14 @@ module _ (c : Limits) (s : State) (d : Sound c s) where
   write-sound : (a : ℕ) → a < R → leaderWriteRefusal s a ≡ accepted → Sound c (leaderWrite s a)
   unfolding leaderWrite append
   write-sound a l h =
-      let w = write-accepted s a h in
+      let w = write-accepted s a .0 h in
       let f = replica-fits c s d a l (nextRecordId s + 1) in
       put-sound c s d a l (append (replicaAt s a) (nextRecord s a)) (nextRecordId s + 1) (omega arith) (omega (arith, w .id))
       (record {
         request = f .request;
         log =
             append-fits s r a (nextRecordId s + 1) (replicaAt s a .end) (replicaAt s a .log) (nextRecord s a) (w .room)
-            (written (next-in-use a l (w .itself)) refl refl) (f .log);
+            (written (next-in-use a l (presumes-itself s a (w .presumes))) refl refl) (f .log);
         hw = omega (arith, f .hw);
       })
 
@@ -149,15 +149,16 @@ module _ (c : Limits) (s : State) (d : Sound c s) where
   leader-shrink-sound : (a b : ℕ) → a < R → leaderShrinkIsrRefusal s a b ≡ accepted → Sound c (leaderShrinkIsr s a b)
   unfolding leaderShrinkIsr
   leader-shrink-sound a b l h =
-      let f = leader-shrink-accepted s a b h in
-      update-sound a (without (replicaAt s a .isr) b) l (f .1)
+      let f = leader-shrink-accepted s a b .0 h in
+      let t = true-leader s a (f .leads) in
+      update-sound a (without (replicaAt s a .isr) b) l t
       (without-below R (replicaAt s a .isr) b (r .s1 .ranges .replicas) (r .s2 .replicas a l .within))
-      (stays-without (replicaAt s a .isr) b a (r .s5 a l .own (f .1 .itself)) (f .0))
+      (stays-without (replicaAt s a .isr) b a (r .s5 a l .own (t .itself)) (f .other))
 
   leader-expand-sound : (a b : ℕ) → a < R → b < R → leaderExpandIsrRefusal s a b ≡ accepted → Sound c (leaderExpandIsr s a b)
   unfolding leaderExpandIsr
   leader-expand-sound a b l m h =
-      let t = leader-expand-accepted s a b h in
+      let t = true-leader s a (leader-expand-accepted s a b .0 h .leads) in
       update-sound a (including (replicaAt s a .isr) b) l t
       (including-below R (replicaAt s a .isr) b (r .s1 .ranges .replicas) (r .s2 .replicas a l .within) m)
       (stays-including (replicaAt s a .isr) b a (r .s5 a l .own (t .itself)))
@@ -168,9 +169,8 @@ module _ (c : Limits) (s : State) (d : Sound c s) where
   unfolding leaderIncHighWatermark withHw
   advance-sound a l h =
       let f = replica-fits c s d a l (nextRecordId s) in
-      let g = advance-accepted s a h in
       put-only-sound c s d a l (withHw (replicaAt s a) (replicaAt s a .hw + 1))
-      (record { request = f .request; log = f .log; hw = omega (arith, g .1 a l (f .request .own (g .0))) })
+      (record { request = f .request; log = f .log; hw = omega (arith, own-hw s a l (f .request .own) h) })
 
   -- ---- kind 8
   -- b has the record that a adds, at the same offset
@@ -178,7 +178,7 @@ module _ (c : Limits) (s : State) (d : Sound c s) where
   unfolding followerReplicate withHw append
   replicate-sound a b l m h =
       let f = replica-fits c s d a l (nextRecordId s) in
-      let behind = replicate-accepted s a b h in
+      let behind = replicate-accepted s a b .0 h .behind in
       put-only-sound c s d a l _
       (record {
         request = f .request;

@@ -1,15 +1,16 @@
--- What an accepted action says of its operands and of the state. Assumes nothing.
+-- What an accepted action says of its operands, and of the state each way. Assumes nothing.
 use Prim.Native.Nat.{ℕ, _+_, _<_}
-use mathlib.Core.Path.{_≡_, refl, sym}
+use mathlib.Core.Path.{_≡_, refl, sym, ap}
 use mathlib.Core.Bool.{Bool, true, false, not}
 use mathlib.Core.Logic.{_↔_}
 use native.Mathlib.Omega.{arith}
-use borrow.Author.Tests.{ltb-true, leb-false, eqb-false, not-false}
-use Rattle.logic.specs.Tests.{every-at, all-at, and-right, implied, true-false}
-use Rattle.logic.specs.Refuse.{refuse-zero}
+use borrow.Author.Tests.{ltb-true, lt-ltb, lt-leb, leb-false, eqb-false, ne-eqb, not-false}
+use Rattle.logic.specs.Tests.{allBelow, every-at, all-at, and-right, implied, true-false}
+use Rattle.logic.specs.Refuse.{refuse-zero, refuse-none}
 use Rattle.parts.specs.declared.Leader.the-variants.{Broker}
 use Rattle.parts.specs.Refusal.{accepted}
 use Rattle.parts.specs.Isr.{member}
+use Rattle.parts.specs.Leader.{names}
 use Rattle.parts.specs.EpochLaws.{same-epoch-true}
 use Rattle.parts.specs.LeaderLaws.{names-iff}
 use Rattle.cluster.specs.declared.Limits.{Limits}
@@ -17,7 +18,7 @@ use Rattle.cluster.specs.declared.State.{State}
 use Rattle.cluster.specs.declared.Action.{Action}
 use Rattle.cluster.specs.State.{replicaCount, logSize, maxRecords, maxLeaderEpoch, nextLeaderEpoch, nextRecordId, requestAt, replicaAt}
 use Rattle.cluster.specs.Predicates.{S1}
-use Rattle.cluster.specs.Actions.{replicaPresumesLeadership, replicaIsFollowing, isTrueLeaderTests, isTrueLeader, epochsUsedUp, requestMissing, controllerShrinkIsrRefusal, controllerElectLeaderRefusal, leaderRefusal, becomeLeaderRefusal, becomeFollowerRefusal, leaderWriteRefusal, leaderShrinkIsrRefusal, leaderExpandIsrRefusal, memberHasHw, leaderIncHighWatermarkRefusal, followerReplicateRefusal}
+use Rattle.cluster.specs.Actions.{replicaPresumesLeadership, replicaIsFollowing, isTrueLeaderTests, isTrueLeader, isFollowerCaughtUp, epochsUsedUp, requestMissing, epochNotAbove, controllerShrinkIsrRefusal, controllerElectLeaderRefusal, leaderRefusal, becomeLeaderRefusal, becomeFollowerRefusal, leaderWriteRefusal, leaderShrinkIsrRefusal, leaderExpandIsrRefusal, memberHasHw, leaderIncHighWatermarkRefusal, followerReplicateRefusal}
 use Rattle.cluster.specs.declared.Kind.{Kind}
 use Rattle.cluster.specs.Act.{kindOf, uses, operandBound, operandBounds, operandTests, operandsFit, tableRefusal, actionRefusal}
 
@@ -53,9 +54,9 @@ action-accepted s action h =
     (not-false _ (p .0), p .1)
 
 -- ---- the source's tests
-pub presumes : (s : State) (a : ℕ) → not (replicaPresumesLeadership s a) ≡ false → replicaAt s a .leader ≡ Broker a
+pub presumes-itself : (s : State) (a : ℕ) → replicaPresumesLeadership s a ≡ true → replicaAt s a .leader ≡ Broker a
 unfolding replicaPresumesLeadership
-presumes s a h = names-iff (replicaAt s a .leader) a .0 (not-false _ h)
+presumes-itself s a h = names-iff (replicaAt s a .leader) a .0 h
 
 -- a true leader: it presumes, the quorum names it, and its epoch is the quorum's
 pub record TrueLeader (s : State) (a : ℕ) : Type 0 where
@@ -63,12 +64,12 @@ pub record TrueLeader (s : State) (a : ℕ) : Type 0 where
   pub quorum : s .quorum .leader ≡ Broker a
   pub epoch : replicaAt s a .epoch ≡ s .quorum .epoch
 
-true-leader : (s : State) (a : ℕ) → not (isTrueLeader s a) ≡ false → TrueLeader s a
-unfolding isTrueLeader replicaPresumesLeadership
+pub true-leader : (s : State) (a : ℕ) → isTrueLeader s a ≡ true → TrueLeader s a
+unfolding isTrueLeader
 true-leader s a h =
-    let t = every-at (isTrueLeaderTests s a) (not-false (isTrueLeader s a) h) in
+    let t = every-at (isTrueLeaderTests s a) h in
     record {
-      itself = names-iff (replicaAt s a .leader) a .0 (t 0);
+      itself = presumes-itself s a (t 0);
       quorum = names-iff (s .quorum .leader) a .0 (t 1);
       epoch = same-epoch-true (replicaAt s a .epoch) (s .quorum .epoch) (t 2);
     }
@@ -77,82 +78,161 @@ true-leader s a h =
 abbrev pub EpochLeft : State → Type 0
 EpochLeft s = nextLeaderEpoch s < maxLeaderEpoch (s .limits) + 1
 
-epoch-left : (s : State) → S1 s → epochsUsedUp s ≡ false → EpochLeft s
+epoch-left-iff : (s : State) → S1 s → epochsUsedUp s ≡ false ↔ EpochLeft s
 unfolding epochsUsedUp
-epoch-left s one h = omega (arith, one .epochs, eqb-false (nextLeaderEpoch s) (maxLeaderEpoch (s .limits) + 1) h)
+epoch-left-iff s one = (
+  (λ h. omega (arith, one .epochs, eqb-false (nextLeaderEpoch s) (maxLeaderEpoch (s .limits) + 1) h)),
+  (λ l. ne-eqb (nextLeaderEpoch s) (maxLeaderEpoch (s .limits) + 1) (omega (arith, l))),
+)
 
--- ---- the table, by kind
+-- ---- the table, by kind: what an accepted action asks of the state, each way
 module _ (s : State) where
   -- the request of epoch e was sent
   pub request-sent : (e : ℕ) → requestMissing s e ≡ false → e < nextLeaderEpoch s
   unfolding requestMissing
   request-sent e h = leb-false (nextLeaderEpoch s) e h
 
-  pub controller-shrink-accepted : (a : ℕ) → S1 s → controllerShrinkIsrRefusal s a ≡ accepted
-      → (member (s .quorum .isr) a ≡ true) × (EpochLeft s)
+  request-there : (e : ℕ) → e < nextLeaderEpoch s → requestMissing s e ≡ false
+  unfolding requestMissing
+  request-there e l = lt-leb (nextLeaderEpoch s) e l
+
+  pub controller-shrink-accepted : (a : ℕ) → S1 s
+      → controllerShrinkIsrRefusal s a ≡ accepted ↔ (member (s .quorum .isr) a ≡ true) × EpochLeft s
   unfolding controllerShrinkIsrRefusal
-  controller-shrink-accepted a one h =
-      let p = refuse-zero _ _ _ h in
-      (not-false _ (p .0), epoch-left s one (refuse-zero _ _ _ (p .1) .0))
+  controller-shrink-accepted a one = (
+    (λ h. let p = refuse-zero _ _ _ h in (not-false _ (p .0), epoch-left-iff s one .0 (refuse-zero _ _ _ (p .1) .0))),
+    (λ t. refuse-none _ _ _ (ap not (t .0)) (refuse-none _ _ _ (epoch-left-iff s one .1 (t .1)) refl)),
+  )
 
-  pub elect-accepted : (a : ℕ) → S1 s → controllerElectLeaderRefusal s a ≡ accepted
-      → (member (s .quorum .isr) a ≡ true) × (EpochLeft s)
+  pub elect-accepted : (a : ℕ) → S1 s
+      → controllerElectLeaderRefusal s a ≡ accepted ↔ (member (s .quorum .isr) a ≡ true) × (names (s .quorum .leader) a ≡ false) × EpochLeft s
   unfolding controllerElectLeaderRefusal
-  elect-accepted a one h =
-      let p = refuse-zero _ _ _ h in
-      (not-false _ (p .0), epoch-left s one (refuse-zero _ _ _ (refuse-zero _ _ _ (p .1) .1) .0))
+  elect-accepted a one = (
+    (λ h.
+        let p = refuse-zero _ _ _ h in
+        let q = refuse-zero _ _ _ (p .1) in
+        (not-false _ (p .0), q .0, epoch-left-iff s one .0 (refuse-zero _ _ _ (q .1) .0))),
+    (λ t. refuse-none _ _ _ (ap not (t .0)) (refuse-none _ _ _ (t .1) (refuse-none _ _ _ (epoch-left-iff s one .1 (t .2)) refl))),
+  )
 
-  pub become-leader-accepted : (e : ℕ) → becomeLeaderRefusal s e ≡ accepted
-      → (e < nextLeaderEpoch s) × (leaderRefusal s e (requestAt s e .leader) ≡ accepted)
+  pub become-leader-accepted : (e : ℕ)
+      → becomeLeaderRefusal s e ≡ accepted ↔ (e < nextLeaderEpoch s) × (leaderRefusal s e (requestAt s e .leader) ≡ accepted)
   unfolding becomeLeaderRefusal
-  become-leader-accepted e h = let p = refuse-zero _ _ _ h in (request-sent e (p .0), p .1)
+  become-leader-accepted e = (
+    (λ h. let p = refuse-zero _ _ _ h in (request-sent e (p .0), p .1)),
+    (λ t. refuse-none _ _ _ (request-there e (t .0)) (t .1)),
+  )
 
-  pub become-follower-accepted : (a e : ℕ) → becomeFollowerRefusal s a e ≡ accepted → e < nextLeaderEpoch s
+  pub become-follower-accepted : (a e : ℕ)
+      → becomeFollowerRefusal s a e ≡ accepted
+      ↔ (e < nextLeaderEpoch s) × (names (requestAt s e .leader) a ≡ false) × (epochNotAbove s a e ≡ false)
   unfolding becomeFollowerRefusal
-  become-follower-accepted a e h = request-sent e (refuse-zero _ _ _ h .0)
+  become-follower-accepted a e = (
+    (λ h.
+        let p = refuse-zero _ _ _ h in
+        let q = refuse-zero _ _ _ (p .1) in
+        (request-sent e (p .0), q .0, refuse-zero _ _ _ (q .1) .0)),
+    (λ t. refuse-none _ _ _ (request-there e (t .0)) (refuse-none _ _ _ (t .1) (refuse-none _ _ _ (t .2) refl))),
+  )
 
   -- a may write
   pub record Writes (a : ℕ) : Type 0 where
-    pub itself : replicaAt s a .leader ≡ Broker a
+    pub presumes : replicaPresumesLeadership s a ≡ true
     pub id : nextRecordId s < maxRecords (s .limits)
     pub room : replicaAt s a .end < logSize (s .limits)
 
-  pub write-accepted : (a : ℕ) → leaderWriteRefusal s a ≡ accepted → Writes a
+  pub write-accepted : (a : ℕ) → leaderWriteRefusal s a ≡ accepted ↔ Writes a
   unfolding leaderWriteRefusal
-  write-accepted a h =
-      let p = refuse-zero _ _ _ h in
-      let q = refuse-zero _ _ _ (p .1) in
-      let v = refuse-zero _ _ _ (q .1) in
-      record { itself = presumes s a (p .0); id = leb-false _ _ (q .0); room = leb-false _ _ (v .0) }
+  write-accepted a = (
+    (λ h.
+        let p = refuse-zero _ _ _ h in
+        let q = refuse-zero _ _ _ (p .1) in
+        record { presumes = not-false _ (p .0); id = leb-false _ _ (q .0); room = leb-false _ _ (refuse-zero _ _ _ (q .1) .0) }),
+    (λ t.
+        refuse-none _ _ _ (ap not (t .presumes))
+        (refuse-none _ _ _ (lt-leb (maxRecords (s .limits)) (nextRecordId s) (t .id))
+        (refuse-none _ _ _ (lt-leb (logSize (s .limits)) (replicaAt s a .end) (t .room)) refl))),
+  )
 
-  pub leader-shrink-accepted : (a b : ℕ) → leaderShrinkIsrRefusal s a b ≡ accepted → (a ≡ b → ⊥) × TrueLeader s a
+  -- a may take b out of its ISR
+  pub record Shrinks (a b : ℕ) : Type 0 where
+    pub other : a ≡ b → ⊥
+    pub leads : isTrueLeader s a ≡ true
+    pub inside : member (replicaAt s a .isr) b ≡ true
+    pub behind : isFollowerCaughtUp s a b (replicaAt s a .end) ≡ false
+
+  pub leader-shrink-accepted : (a b : ℕ) → leaderShrinkIsrRefusal s a b ≡ accepted ↔ Shrinks a b
   unfolding leaderShrinkIsrRefusal
-  leader-shrink-accepted a b h =
-      let p = refuse-zero _ _ _ h in
-      (eqb-false a b (p .0), true-leader s a (refuse-zero _ _ _ (p .1) .0))
+  leader-shrink-accepted a b = (
+    (λ h.
+        let p = refuse-zero _ _ _ h in
+        let q = refuse-zero _ _ _ (p .1) in
+        let v = refuse-zero _ _ _ (q .1) in
+        record {
+          other = eqb-false a b (p .0);
+          leads = not-false _ (q .0);
+          inside = not-false _ (v .0);
+          behind = refuse-zero _ _ _ (v .1) .0;
+        }),
+    (λ t.
+        refuse-none _ _ _ (ne-eqb a b (t .other))
+        (refuse-none _ _ _ (ap not (t .leads)) (refuse-none _ _ _ (ap not (t .inside)) (refuse-none _ _ _ (t .behind) refl)))),
+  )
 
-  pub leader-expand-accepted : (a b : ℕ) → leaderExpandIsrRefusal s a b ≡ accepted → TrueLeader s a
+  -- a may take b into its ISR
+  pub record Expands (a b : ℕ) : Type 0 where
+    pub leads : isTrueLeader s a ≡ true
+    pub outside : member (replicaAt s a .isr) b ≡ false
+    pub caught : isFollowerCaughtUp s a b (replicaAt s a .hw) ≡ true
+
+  pub leader-expand-accepted : (a b : ℕ) → leaderExpandIsrRefusal s a b ≡ accepted ↔ Expands a b
   unfolding leaderExpandIsrRefusal
-  leader-expand-accepted a b h = true-leader s a (refuse-zero _ _ _ h .0)
+  leader-expand-accepted a b = (
+    (λ h.
+        let p = refuse-zero _ _ _ h in
+        let q = refuse-zero _ _ _ (p .1) in
+        record { leads = not-false _ (p .0); outside = q .0; caught = not-false _ (refuse-zero _ _ _ (q .1) .0) }),
+    (λ t. refuse-none _ _ _ (ap not (t .leads)) (refuse-none _ _ _ (t .outside) (refuse-none _ _ _ (ap not (t .caught)) refl))),
+  )
 
-  -- every member of its ISR has the offset of a's high watermark
-  pub advance-accepted : (a : ℕ) → leaderIncHighWatermarkRefusal s a ≡ accepted
-      → (replicaAt s a .leader ≡ Broker a)
-      × ((m : ℕ) → m < replicaCount (s .limits) → member (replicaAt s a .isr) m ≡ true → replicaAt s a .hw < replicaAt s m .end)
-  unfolding leaderIncHighWatermarkRefusal memberHasHw
-  advance-accepted a h =
-      let p = refuse-zero _ _ _ h in
-      let q = refuse-zero _ _ _ (p .1) in (
-        presumes s a (p .0),
-        (λ m l in-isr.
-            ltb-true (replicaAt s a .hw) (replicaAt s m .end)
-            (and-right (replicaIsFollowing s m a) _
-            (implied (member (replicaAt s a .isr) m) _ (all-at _ (memberHasHw s a) (not-false _ (q .0)) m l) in-isr))),
-      )
+  pub advance-accepted : (a : ℕ)
+      → leaderIncHighWatermarkRefusal s a ≡ accepted
+      ↔ (replicaPresumesLeadership s a ≡ true) × (allBelow (replicaCount (s .limits)) (memberHasHw s a) ≡ true)
+  unfolding leaderIncHighWatermarkRefusal
+  advance-accepted a = (
+    (λ h. let p = refuse-zero _ _ _ h in (not-false _ (p .0), not-false _ (refuse-zero _ _ _ (p .1) .0))),
+    (λ t. refuse-none _ _ _ (ap not (t .0)) (refuse-none _ _ _ (ap not (t .1)) refl)),
+  )
 
-  pub replicate-accepted : (a b : ℕ) → followerReplicateRefusal s a b ≡ accepted → replicaAt s a .end < replicaAt s b .end
+  -- a is in its own ISR, where it leads itself, so it has the offset of its high watermark
+  pub own-hw : (a : ℕ) → a < replicaCount (s .limits) → (replicaAt s a .leader ≡ Broker a → member (replicaAt s a .isr) a ≡ true)
+      → leaderIncHighWatermarkRefusal s a ≡ accepted → replicaAt s a .hw < replicaAt s a .end
+  unfolding memberHasHw
+  own-hw a l own h =
+      let t = advance-accepted a .0 h in
+      ltb-true (replicaAt s a .hw) (replicaAt s a .end)
+      (and-right (replicaIsFollowing s a a) _
+      (implied (member (replicaAt s a .isr) a) _ (all-at _ (memberHasHw s a) (t .1) a l) (own (presumes-itself s a (t .0)))))
+
+  -- a may replicate from b
+  pub record Replicates (a b : ℕ) : Type 0 where
+    pub presumes : replicaPresumesLeadership s b ≡ true
+    pub follows : replicaIsFollowing s a b ≡ true
+    pub behind : replicaAt s a .end < replicaAt s b .end
+
+  pub replicate-accepted : (a b : ℕ) → followerReplicateRefusal s a b ≡ accepted ↔ Replicates a b
   unfolding followerReplicateRefusal
-  replicate-accepted a b h =
-      let p = refuse-zero _ _ _ h in
-      let q = refuse-zero _ _ _ (p .1) in
-      ltb-true _ _ (not-false _ (refuse-zero _ _ _ (q .1) .0))
+  replicate-accepted a b = (
+    (λ h.
+        let p = refuse-zero _ _ _ h in
+        let q = refuse-zero _ _ _ (p .1) in
+        record {
+          presumes = not-false _ (p .0);
+          follows = not-false _ (q .0);
+          behind = ltb-true _ _ (not-false _ (refuse-zero _ _ _ (q .1) .0));
+        }),
+    (λ t.
+        refuse-none _ _ _ (ap not (t .presumes))
+        (refuse-none _ _ _ (ap not (t .follows))
+        (refuse-none _ _ _ (ap not (lt-ltb (replicaAt s a .end) (replicaAt s b .end) (t .behind))) refl))),
+  )

@@ -63,10 +63,10 @@ module _ (s : State) (h : rules s ≡ true) where
 
   -- ---- room in a log for the record that is added
   pub write-room : (a : ℕ) → leaderWriteRefusal s a ≡ accepted → replicaAt s a .end < 16
-  write-room a k = omega (arith, write-accepted s a k .room, log-small)
+  write-room a k = omega (arith, write-accepted s a .0 k .room, log-small)
 
   pub replicate-room : (a b : ℕ) → b < replicaCount (s .limits) → followerReplicateRefusal s a b ≡ accepted → replicaAt s a .end < 16
-  replicate-room a b l k = omega (arith, replicate-accepted s a b k, end-small b l)
+  replicate-room a b l k = omega (arith, replicate-accepted s a b .0 k .behind, end-small b l)
 
 -- ---- kinds
 -- a number that is none of 0 to 8 is of no kind

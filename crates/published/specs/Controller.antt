@@ -1,13 +1,11 @@
 -- Kinds 0 and 1, ControllerShrinkIsr and ControllerElectLeader: the source's action with the replica a as its choice is the
 -- engine's. Assumes nothing.
-use Prim.Native.Nat.{ℕ, _+_}
-use mathlib.Core.Path.{_≡_, refl, sym, _∙_, ap}
-use mathlib.Core.Bool.{Bool, true, false, not}
+use Prim.Native.Nat.{ℕ}
+use mathlib.Core.Path.{_≡_, refl, sym, _∙_}
+use mathlib.Core.Bool.{Bool, true, false}
 use mathlib.Core.Option.{some}
 use mathlib.Core.Logic.{_↔_, inl, inr}
 use native.Mathlib.Omega.{arith}
-use borrow.Author.Tests.{ne-eqb}
-use Rattle.logic.specs.Refuse.{refuse-zero, refuse-none}
 use Rattle.parts.specs.declared.Leader.{Leader}
 use Rattle.parts.specs.declared.Leader.the-variants.{None, Broker}
 use Rattle.parts.specs.Refusal.{accepted}
@@ -15,8 +13,8 @@ use Rattle.parts.specs.Isr.{member, without, isAlone}
 use Rattle.parts.specs.Leader.{names}
 use Rattle.parts.specs.LeaderLaws.{names-iff}
 use Rattle.cluster.specs.declared.State.{State}
-use Rattle.cluster.specs.State.{maxLeaderEpoch, nextLeaderEpoch, controllerUpdateIsr}
-use Rattle.cluster.specs.Actions.{epochsUsedUp, controllerShrinkIsrRefusal, shrinkBy, controllerShrinkIsr, controllerElectLeaderRefusal, controllerElectLeader}
+use Rattle.cluster.specs.State.{nextLeaderEpoch, controllerUpdateIsr}
+use Rattle.cluster.specs.Actions.{controllerShrinkIsrRefusal, shrinkBy, controllerShrinkIsr, controllerElectLeaderRefusal, controllerElectLeader}
 use Rattle.cluster.specs.Accepted.{EpochLeft, controller-shrink-accepted, elect-accepted}
 use Rattle.actions.specs.Sound.{Sound}
 use Rattle.published.specs.KafkaReplication.{Constants, ModelState, _isIn_, singleton, UnchangedNextRecordId, UnchangedReplicaLog, UnchangedReplicaState, ControllerUpdateIsr, ControllerShrinkIsrWith, ControllerElectLeaderWith}
@@ -70,25 +68,17 @@ module _ (s : State) (d : Sound (s .limits) s) (u : ModelState) (m : Means (s .l
           )
 
   -- ---- kind 0
-  -- the engine accepts where a is in the quorum's ISR and an epoch is left
-  epoch-left-by : EpochLeft s → epochsUsedUp s ≡ false
-  unfolding epochsUsedUp
-  epoch-left-by l = ne-eqb (nextLeaderEpoch s) (maxLeaderEpoch (s .limits) + 1) (omega (arith, l))
-
-  shrink-accepted-by : (a : ℕ) → member (s .quorum .isr) a ≡ true → EpochLeft s → controllerShrinkIsrRefusal s a ≡ accepted
-  unfolding controllerShrinkIsrRefusal
-  shrink-accepted-by a h l = refuse-none _ _ _ (ap not h) (refuse-none _ _ _ (epoch-left-by l) refl)
-
-  abbrev Shrinks : ℕ → Type 0
-  Shrinks a = (controllerShrinkIsrRefusal s a ≡ accepted) × Means (s .limits) v (controllerShrinkIsr s a)
+  -- the engine accepts, and v is the meaning of its next state
+  abbrev ShrinkStep : ℕ → Type 0
+  ShrinkStep a = (controllerShrinkIsrRefusal s a ≡ accepted) × Means (s .limits) v (controllerShrinkIsr s a)
 
   -- a case of the source: where the effect is this update
   shrink-case : (a : ℕ) (leader : Leader) (isr : ℕ) → member (s .quorum .isr) a ≡ true → controllerShrinkIsr s a ≡ controllerUpdateIsr s leader isr
-      → Updated leader isr ↔ Shrinks a
+      → Updated leader isr ↔ ShrinkStep a
   shrink-case a leader isr h e =
       rw e (
-        (λ t. let n = updated-iff leader isr .0 t in (shrink-accepted-by a h (n .0), n .1)),
-        (λ t. updated-iff leader isr .1 (controller-shrink-accepted s a (d .rules .s1) (t .0) .1, t .1)),
+        (λ t. let n = updated-iff leader isr .0 t in (controller-shrink-accepted s a (d .rules .s1) .1 (h, n .0), n .1)),
+        (λ t. updated-iff leader isr .1 (controller-shrink-accepted s a (d .rules .s1) .0 (t .0) .1, t .1)),
       )
 
   -- the effect, by whether a leads and whether it is alone
@@ -100,17 +90,17 @@ module _ (s : State) (d : Sound (s .limits) s) (u : ModelState) (m : Means (s .l
   leader-member : (a : ℕ) → names (s .quorum .leader) a ≡ true → member (s .quorum .isr) a ≡ true
   leader-member a n = d .rules .s4 .quorum a (names-iff (s .quorum .leader) a .0 n)
 
-  leads-alone : (a : ℕ) → names (s .quorum .leader) a ≡ true → isAlone (s .quorum .isr) a ≡ true → Updated None (s .quorum .isr) ↔ Shrinks a
+  leads-alone : (a : ℕ) → names (s .quorum .leader) a ≡ true → isAlone (s .quorum .isr) a ≡ true → Updated None (s .quorum .isr) ↔ ShrinkStep a
   unfolding shrinkBy
   leads-alone a n h = shrink-case a None (s .quorum .isr) (leader-member a n) (effect-by a true true n h)
 
   leads-others : (a : ℕ) → names (s .quorum .leader) a ≡ true → isAlone (s .quorum .isr) a ≡ false
-      → Updated None (without (s .quorum .isr) a) ↔ Shrinks a
+      → Updated None (without (s .quorum .isr) a) ↔ ShrinkStep a
   unfolding shrinkBy
   leads-others a n h = shrink-case a None (without (s .quorum .isr) a) (leader-member a n) (effect-by a true false n h)
 
   follows : (a : ℕ) → names (s .quorum .leader) a ≡ false → member (s .quorum .isr) a ≡ true
-      → Updated (s .quorum .leader) (without (s .quorum .isr) a) ↔ Shrinks a
+      → Updated (s .quorum .leader) (without (s .quorum .isr) a) ↔ ShrinkStep a
   unfolding shrinkBy
   follows a n h = shrink-case a (s .quorum .leader) (without (s .quorum .isr) a) h (effect-by a false _ n refl)
 
@@ -122,7 +112,7 @@ module _ (s : State) (d : Sound (s .limits) s) (u : ModelState) (m : Means (s .l
     alone = (members-alone (s .quorum .isr) a .1, members-alone (s .quorum .isr) a .0)
 
     -- the three cases of the source
-    shrink-to : ControllerShrinkIsrWith k u v a → Shrinks a
+    shrink-to : ControllerShrinkIsrWith k u v a → ShrinkStep a
     shrink-to t =
         let c = rw (quorum-at s u m) at t in
         let rest : Rest = (t .1, t .2, t .3) in
@@ -134,7 +124,7 @@ module _ (s : State) (d : Sound (s .limits) s) (u : ModelState) (m : Means (s .l
               follows a (refuted-iff _ leads .0 (x .0)) (x .1) .0 (rw (members-without (s .quorum .isr) a) (x .2), rest)
         ]
 
-    shrink-from : Shrinks a → ControllerShrinkIsrWith k u v a
+    shrink-from : ShrinkStep a → ControllerShrinkIsrWith k u v a
     shrink-from t = go (names (s .quorum .leader) a) (isAlone (s .quorum .isr) a) refl refl
       where
         go : (x y : Bool) → names (s .quorum .leader) a ≡ x → isAlone (s .quorum .isr) a ≡ y → ControllerShrinkIsrWith k u v a
@@ -146,36 +136,27 @@ module _ (s : State) (d : Sound (s .limits) s) (u : ModelState) (m : Means (s .l
             rw (quorum-at s u m, ← (members-without (s .quorum .isr) a))
             (inr (inl (leads .1 n, refuted-iff _ alone .1 h, w .0)), w .1 .0, w .1 .1, w .1 .2)
         go false y n h =
-            let i = controller-shrink-accepted s a (d .rules .s1) (t .0) .0 in
+            let i = controller-shrink-accepted s a (d .rules .s1) .0 (t .0) .0 in
             let w = follows a n i .1 t in
             rw (quorum-at s u m, ← (members-without (s .quorum .isr) a))
             (inr (inr (refuted-iff _ leads .1 n, i, w .0)), w .1 .0, w .1 .1, w .1 .2)
 
-    pub controller-shrink-iff : ControllerShrinkIsrWith k u v a ↔ Shrinks a
+    pub controller-shrink-iff : ControllerShrinkIsrWith k u v a ↔ ShrinkStep a
     controller-shrink-iff = (shrink-to, shrink-from)
 
   -- ---- kind 1
-  abbrev Elects : ℕ → Type 0
-  Elects a = (controllerElectLeaderRefusal s a ≡ accepted) × Means (s .limits) v (controllerElectLeader s a)
+  abbrev ElectStep : ℕ → Type 0
+  ElectStep a = (controllerElectLeaderRefusal s a ≡ accepted) × Means (s .limits) v (controllerElectLeader s a)
 
-  elect-accepted-by : (a : ℕ) → member (s .quorum .isr) a ≡ true → names (s .quorum .leader) a ≡ false → EpochLeft s
-      → controllerElectLeaderRefusal s a ≡ accepted
-  unfolding controllerElectLeaderRefusal
-  elect-accepted-by a h n l = refuse-none _ _ _ (ap not h) (refuse-none _ _ _ n (refuse-none _ _ _ (epoch-left-by l) refl))
-
-  not-leading : (a : ℕ) → controllerElectLeaderRefusal s a ≡ accepted → names (s .quorum .leader) a ≡ false
-  unfolding controllerElectLeaderRefusal
-  not-leading a h = refuse-zero _ _ _ (refuse-zero _ _ _ h .1) .0
-
-  pub elect-iff : (a : ℕ) → a isIn u .quorumState .isr × ControllerElectLeaderWith k u v a ↔ Elects a
+  pub elect-iff : (a : ℕ) → a isIn u .quorumState .isr × ControllerElectLeaderWith k u v a ↔ ElectStep a
   unfolding controllerElectLeader
   elect-iff a =
       rw (quorum-at s u m) (
         (λ t.
             let n = updated-iff (Broker a) (s .quorum .isr) .0 (t .1 .1, (t .1 .2, t .1 .3, t .1 .4)) in
-            (elect-accepted-by a (t .0) (refuted-iff _ (leads a) .0 (t .1 .0)) (n .0), n .1)),
+            (elect-accepted s a (d .rules .s1) .1 (t .0, refuted-iff _ (leads a) .0 (t .1 .0), n .0), n .1)),
         (λ t.
-            let f = elect-accepted s a (d .rules .s1) (t .0) in
-            let n = updated-iff (Broker a) (s .quorum .isr) .1 (f .1, t .1) in
-            (f .0, (refuted-iff _ (leads a) .1 (not-leading a (t .0)), n .0, n .1 .0, n .1 .1, n .1 .2))),
+            let f = elect-accepted s a (d .rules .s1) .0 (t .0) in
+            let n = updated-iff (Broker a) (s .quorum .isr) .1 (f .2, t .1) in
+            (f .0, (refuted-iff _ (leads a) .1 (f .1), n .0, n .1 .0, n .1 .1, n .1 .2))),
       )

@@ -64,7 +64,7 @@ module _ (s : State) (d : Sound (s .limits) s) (u : ModelState) (m : Means (s .l
   kind-iff ControllerElectLeader a b e = (
     (λ t.
         let n = elect-iff s d u m v a .0 t in
-        let i = elect-accepted s a (d .rules .s1) (n .0) .0 in
+        let i = elect-accepted s a (d .rules .s1) .0 (n .0) .0 in
         let l = isr-below (s .limits) (s .quorum .isr) (d .rules .s1 .ranges .replicas) (d .rules .s2 .quorum .within) a i in
         record { operands = record { a-below = λ q. l; b-below = unused }; none-refuses = n .0; next = n .1 }),
     (λ t. elect-iff s d u m v a .1 (t .none-refuses, t .next)),
@@ -129,8 +129,8 @@ module _ (s : State) (d : Sound (s .limits) s) (u : ModelState) (m : Means (s .l
   -- the epoch of a request that was sent is at most X
   epoch-below : (kind : Kind) (a b e : ℕ) → tableRefusal kind s a b e ≡ accepted → uses kind .e ≡ true → e < maxLeaderEpoch (s .limits) + 1
   unfolding uses tableRefusal
-  epoch-below BecomeLeader a b e h q = omega (arith, become-leader-accepted s e h .0, d .rules .s1 .epochs)
-  epoch-below BecomeFollower a b e h q = omega (arith, become-follower-accepted s a e h, d .rules .s1 .epochs)
+  epoch-below BecomeLeader a b e h q = omega (arith, become-leader-accepted s e .0 h .0, d .rules .s1 .epochs)
+  epoch-below BecomeFollower a b e h q = omega (arith, become-follower-accepted s a e .0 h .0, d .rules .s1 .epochs)
   epoch-below ControllerShrinkIsr a b e h q = unused q
   epoch-below ControllerElectLeader a b e h q = unused q
   epoch-below LeaderWrite a b e h q = unused q

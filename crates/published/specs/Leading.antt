@@ -6,9 +6,8 @@ use mathlib.Core.Bool.{true, false, not}
 use mathlib.Core.Logic.{_↔_, Iff·rfl}
 use native.Mathlib.Omega.{arith}
 use lib.Dec.{eqb}
-use borrow.Author.Tests.{lt-ltb, ltb-true, eqb-false, ne-eqb, not-true, not-false}
+use borrow.Author.Tests.{lt-ltb, ltb-true, eqb-false, ne-eqb, not-true}
 use Rattle.logic.specs.Tests.{allBelow, all-at, all-by, and-left, and-right, and-true, implied, implies}
-use Rattle.logic.specs.Refuse.{refuse-zero, refuse-none}
 use Rattle.parts.specs.Refusal.{accepted}
 use Rattle.parts.specs.Isr.{member, without, including}
 use Rattle.replica.specs.declared.Replica.{Replica}
@@ -18,8 +17,8 @@ use Rattle.cluster.specs.declared.State.{State}
 use Rattle.cluster.specs.Rules.{rules}
 use Rattle.cluster.specs.Predicates.{rules-iff}
 use Rattle.cluster.specs.State.{replicaCount, logSize, nextRecordId, replicaAt, withReplica, withQuorumIsr}
-use Rattle.cluster.specs.Actions.{replicaPresumesLeadership, replicaIsFollowing, isTrueLeader, isFollowerCaughtUp, quorumUpdateLeaderAndIsr, leaderShrinkIsrRefusal, leaderShrinkIsr, leaderExpandIsrRefusal, leaderExpandIsr, memberHasHw, leaderIncHighWatermarkRefusal, leaderIncHighWatermark}
-use Rattle.cluster.specs.Accepted.{advance-accepted}
+use Rattle.cluster.specs.Actions.{replicaIsFollowing, isTrueLeader, isFollowerCaughtUp, quorumUpdateLeaderAndIsr, leaderShrinkIsrRefusal, leaderShrinkIsr, leaderExpandIsrRefusal, leaderExpandIsr, memberHasHw, leaderIncHighWatermarkRefusal, leaderIncHighWatermark}
+use Rattle.cluster.specs.Accepted.{leader-shrink-accepted, leader-expand-accepted, advance-accepted, own-hw}
 use Rattle.actions.specs.Sound.{Sound}
 use Rattle.published.specs.KafkaReplication.{Constants, _isIn_, Replicas, minus, plus, exceptHw, exceptIsr, LocalState, LeaderAndIsr, ModelState, ReplicaLog·Offsets, ReplicaLog·HasOffset, ReplicaIsFollowing, IsFollowerCaughtUp, UnchangedNextRecordId, UnchangedReplicaLog, UnchangedNextLeaderEpoch, UnchangedRequests, QuorumUpdateLeaderAndIsr, LeaderShrinkIsrWith, LeaderExpandIsrWith, LeaderIncHighWatermarkWith}
 use Rattle.published.specs.Meaning.{constantsOf, meaning, Means}
@@ -101,32 +100,6 @@ module _ (s : State) (d : Sound (s .limits) s) (u : ModelState) (m : Means (s .l
 
   module _ (b : ℕ) where
     -- ---- kind 5
-    shrink-accepted-by : (a ≡ b → ⊥) → isTrueLeader s a ≡ true → member (own .isr) b ≡ true → isFollowerCaughtUp s a b (own .end) ≡ false
-        → leaderShrinkIsrRefusal s a b ≡ accepted
-    unfolding leaderShrinkIsrRefusal
-    shrink-accepted-by n h i c =
-        refuse-none _ _ _ (ne-eqb a b n) (refuse-none _ _ _ (ap not h) (refuse-none _ _ _ (ap not i) (refuse-none _ _ _ c refl)))
-
-    -- what an accepted one says
-    record Shrinks : Type 0 where
-      other : a ≡ b → ⊥
-      leads : isTrueLeader s a ≡ true
-      inside : member (own .isr) b ≡ true
-      behind : isFollowerCaughtUp s a b (own .end) ≡ false
-
-    shrink-accepted-says : leaderShrinkIsrRefusal s a b ≡ accepted → Shrinks
-    unfolding leaderShrinkIsrRefusal
-    shrink-accepted-says h =
-        let p = refuse-zero _ _ _ h in
-        let q = refuse-zero _ _ _ (p .1) in
-        let v = refuse-zero _ _ _ (q .1) in
-        record {
-          other = eqb-false a b (p .0);
-          leads = not-false _ (q .0);
-          inside = not-false _ (v .0);
-          behind = refuse-zero _ _ _ (v .1) .0;
-        }
-
     -- the members of a's ISR without a
     minus-iff : b isIn minus (member (own .isr)) a ↔ (member (own .isr) b ≡ true) × (a ≡ b → ⊥)
     minus-iff = (
@@ -149,9 +122,9 @@ module _ (s : State) (d : Sound (s .limits) s) (u : ModelState) (m : Means (s .l
               let i = minus-iff .0 (t .0) in
               let lb = member-below b (i .0) in
               let n = update-iff (without (own .isr) b) .0 (t .1 .1, (t .1 .2, t .1 .3, t .1 .4, t .1 .5)) in
-              (lb, shrink-accepted-by (i .1) (n .0) (i .0) (behind-iff lb .0 (t .1 .0)), n .1)),
+              (lb, leader-shrink-accepted s a b .1 (record { other = i .1; leads = n .0; inside = i .0; behind = behind-iff lb .0 (t .1 .0) }), n .1)),
           (λ t.
-              let f = shrink-accepted-says (t .1) in
+              let f = leader-shrink-accepted s a b .0 (t .1) in
               let n = update-iff (without (own .isr) b) .1 (f .leads, t .2) in (
                 minus-iff .1 (f .inside, f .other),
                 (behind-iff (t .0) .1 (f .behind), n .0, n .1 .0, n .1 .1, n .1 .2, n .1 .3),
@@ -159,23 +132,6 @@ module _ (s : State) (d : Sound (s .limits) s) (u : ModelState) (m : Means (s .l
         )
 
     -- ---- kind 6
-    expand-accepted-by : isTrueLeader s a ≡ true → member (own .isr) b ≡ false → isFollowerCaughtUp s a b (own .hw) ≡ true
-        → leaderExpandIsrRefusal s a b ≡ accepted
-    unfolding leaderExpandIsrRefusal
-    expand-accepted-by h i c = refuse-none _ _ _ (ap not h) (refuse-none _ _ _ i (refuse-none _ _ _ (ap not c) refl))
-
-    record Expands : Type 0 where
-      leads : isTrueLeader s a ≡ true
-      outside : member (own .isr) b ≡ false
-      caught : isFollowerCaughtUp s a b (own .hw) ≡ true
-
-    expand-accepted-says : leaderExpandIsrRefusal s a b ≡ accepted → Expands
-    unfolding leaderExpandIsrRefusal
-    expand-accepted-says h =
-        let p = refuse-zero _ _ _ h in
-        let q = refuse-zero _ _ _ (p .1) in
-        record { leads = not-false _ (p .0); outside = q .0; caught = not-false _ (refuse-zero _ _ _ (q .1) .0) }
-
     caught-iff : b < R → IsFollowerCaughtUp k u a b (u .replicaState a .hw) ↔ isFollowerCaughtUp s a b (own .hw) ≡ true
     caught-iff lb = caught-up-iff s u m met a b l lb (u .replicaState a .hw) (own .hw) (hw-at s u m a l) (d .rules .s5 a l .hw)
 
@@ -190,9 +146,9 @@ module _ (s : State) (d : Sound (s .limits) s) (u : ModelState) (m : Means (s .l
           (λ t.
               let lb : b < R = ltb-true b R (t .0) in
               let n = update-iff (including (own .isr) b) .0 (rw (joined lb) (t .2 .1), (t .2 .2, t .2 .3, t .2 .4, t .2 .5)) in
-              (lb, expand-accepted-by (n .0) (outside-iff .0 (t .1)) (caught-iff lb .0 (t .2 .0)), n .1)),
+              (lb, leader-expand-accepted s a b .1 (record { leads = n .0; outside = outside-iff .0 (t .1); caught = caught-iff lb .0 (t .2 .0) }), n .1)),
           (λ t.
-              let f = expand-accepted-says (t .1) in
+              let f = leader-expand-accepted s a b .0 (t .1) in
               let n = update-iff (including (own .isr) b) .1 (f .leads, t .2) in (
                 lt-ltb b R (t .0),
                 outside-iff .1 (f .outside),
@@ -243,21 +199,9 @@ module _ (s : State) (d : Sound (s .limits) s) (u : ModelState) (m : Means (s .l
             )),
       )
 
-  inc-accepted-by : replicaPresumesLeadership s a ≡ true → allBelow R (memberHasHw s a) ≡ true → leaderIncHighWatermarkRefusal s a ≡ accepted
-  unfolding leaderIncHighWatermarkRefusal
-  inc-accepted-by p h = refuse-none _ _ _ (ap not p) (refuse-none _ _ _ (ap not h) refl)
-
-  inc-accepted-says : leaderIncHighWatermarkRefusal s a ≡ accepted → (replicaPresumesLeadership s a ≡ true) × (allBelow R (memberHasHw s a) ≡ true)
-  unfolding leaderIncHighWatermarkRefusal
-  inc-accepted-says h =
-      let p = refuse-zero _ _ _ h in
-      (not-false _ (p .0), not-false _ (refuse-zero _ _ _ (p .1) .0))
-
   -- a leads itself, so it is in its own ISR and has the offset of its high watermark: that offset is below LogSize
   hw-offset : leaderIncHighWatermarkRefusal s a ≡ accepted → own .hw < logSize (s .limits)
-  hw-offset h =
-      let f = advance-accepted s a h in
-      omega (arith, f .1 a l (d .rules .s5 a l .own (f .0)), d .rules .s2 .ends a l)
+  hw-offset h = omega (arith, own-hw s a l (d .rules .s5 a l .own) h, d .rules .s2 .ends a l)
 
   pub inc-iff : ((offset : ℕ) × ReplicaLog·Offsets k offset × LeaderIncHighWatermarkWith k u v offset a)
       ↔ (leaderIncHighWatermarkRefusal s a ≡ accepted) × Means (s .limits) v (leaderIncHighWatermark s a)
@@ -267,7 +211,7 @@ module _ (s : State) (d : Sound (s .limits) s) (u : ModelState) (m : Means (s .l
       let presumes = presumes-iff s u m a l in (
         (λ t.
             let b = t .2 in (
-              inc-accepted-by (presumes .0 (b .0)) (all-have-iff (t .0) (b .1 ∙ hw-at s u m a l) .0 (b .2)),
+              advance-accepted s a .1 (presumes .0 (b .0), all-have-iff (t .0) (b .1 ∙ hw-at s u m a l) .0 (b .2)),
               put .0
                   (record {
                     replicaLog = b .5;
@@ -279,7 +223,7 @@ module _ (s : State) (d : Sound (s .limits) s) (u : ModelState) (m : Means (s .l
                   }),
             )),
         (λ t.
-            let f = inc-accepted-says (t .0) in
+            let f = advance-accepted s a .0 (t .0) in
             let n = put .1 (t .1) in (
               own .hw,
               hw-offset (t .0),

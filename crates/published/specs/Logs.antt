@@ -2,26 +2,24 @@
 -- Assumes nothing.
 use Prim.Native.Nat.{ℕ, _+_, _<_, min}
 use mathlib.Core.Path.{_≡_, refl, sym, _∙_, ap}
-use mathlib.Core.Bool.{not}
 use mathlib.Core.Logic.{_↔_}
 use native.Mathlib.Omega.{arith}
 use lib.ListN.{length}
-use borrow.Author.Tests.{lt-ltb, ltb-true, lt-leb, not-false}
+use borrow.Author.Tests.{lt-ltb, ltb-true}
 use Rattle.logic.specs.Lists.{each-set}
-use Rattle.logic.specs.Refuse.{refuse-zero, refuse-none}
 use Rattle.parts.specs.Refusal.{accepted}
 use Rattle.replica.specs.declared.Record.{Record}
 use Rattle.replica.specs.declared.Replica.{Replica}
 use Rattle.replica.specs.Replica.{zeroRecord, recordAt}
 use Rattle.replica.specs.Change.{withHw, append}
 use Rattle.cluster.specs.declared.State.{State}
-use Rattle.cluster.specs.State.{replicaCount, logSize, maxRecords, nextRecordId, replicaAt, withReplica, withNextRecordId}
+use Rattle.cluster.specs.State.{replicaCount, logSize, nextRecordId, replicaAt, withReplica, withNextRecordId}
 use Rattle.cluster.specs.Actions.{leaderWriteRefusal, nextRecord, leaderWrite, followerReplicateRefusal, followerReplicate}
-use Rattle.cluster.specs.Accepted.{write-accepted}
+use Rattle.cluster.specs.Accepted.{write-accepted, replicate-accepted}
 use Rattle.actions.specs.Tidy.{tidy-replica-iff}
 use Rattle.actions.specs.Sound.{Sound}
-use Rattle.published.specs.KafkaReplication.{Constants, _isIn_, Replicas, except, exceptHw, LogRecord, Log, LocalState, ModelState, SameLog, followerHw, RecordSeq·IdSet, ReplicaLog·Offsets, ReplicaPresumesLeadership, ReplicaIsFollowing, LeaderWriteWith, FollowerReplicateWith}
-use Rattle.published.specs.Meaning.{constantsOf, leaderOf, recordOf, logOf, localStateOf, meaning, Means}
+use Rattle.published.specs.KafkaReplication.{Constants, _isIn_, Replicas, except, exceptHw, LogRecord, Log, LocalState, ModelState, SameLog, followerHw, RecordSeq·IdSet, ReplicaLog·Offsets, LeaderWriteWith, FollowerReplicateWith}
+use Rattle.published.specs.Meaning.{constantsOf, recordOf, logOf, localStateOf, meaning, Means}
 use Rattle.published.specs.Reading.{state-at, log-at, following-iff, presumes-iff}
 use Rattle.published.specs.Changes.{except-same, except-other, Becomes, put-iff, put-only-iff}
 
@@ -84,14 +82,6 @@ module _ (s : State) (d : Sound (s .limits) s) (u : ModelState) (m : Means (s .l
           other-states = λ r n. refl;
         }
 
-    accepted-by : ReplicaPresumesLeadership u a → nextRecordId s < maxRecords (s .limits) → own .end < logSize (s .limits)
-        → leaderWriteRefusal s a ≡ accepted
-    unfolding leaderWriteRefusal
-    accepted-by p i room =
-        refuse-none _ _ _ (ap not (presumes-iff s u m a l .0 p))
-        (refuse-none _ _ _ (lt-leb (maxRecords (s .limits)) (nextRecordId s) i)
-        (refuse-none _ _ _ (lt-leb (logSize (s .limits)) (own .end) room) refl))
-
     write-to : (id offset : ℕ) → LeaderWriteWith k u v a id offset
         → (leaderWriteRefusal s a ≡ accepted) × Means (s .limits) v (leaderWrite s a)
     unfolding leaderWrite withNextRecordId withReplica meaning
@@ -99,7 +89,12 @@ module _ (s : State) (d : Sound (s .limits) s) (u : ModelState) (m : Means (s .l
         let q : id ≡ nextRecordId s = t .1 .0 ∙ m .nextRecordId in
         let o : offset ≡ own .end = t .2 .1 ∙ log-at s u m a l .end in
         let room : own .end < logSize (s .limits) = omega (arith, t .2 .0, o) in (
-          accepted-by (t .0) (omega (arith, q, t .1 .1, d .rules .s1 .ranges .records-low)) room,
+          write-accepted s a .1
+              (record {
+                presumes = presumes-iff s u m a l .0 (t .0);
+                id = omega (arith, q, t .1 .1, d .rules .s1 .ranges .records-low);
+                room = room;
+              }),
           put-iff s d u m a (append own (nextRecord s a)) (logs-with (written id) offset) (u .replicaState)
               (u .nextRecordId + 1) (nextRecordId s + 1) (u .quorumState) (s .quorum) (ap (λ n. n + 1) (m .nextRecordId)) (m .quorumState)
               (writes id offset q o room) v .0
@@ -117,7 +112,7 @@ module _ (s : State) (d : Sound (s .limits) s) (u : ModelState) (m : Means (s .l
         → RecordSeq·IdSet k (nextRecordId s) × ReplicaLog·Offsets k (own .end) × LeaderWriteWith k u v a (nextRecordId s) (own .end)
     unfolding leaderWrite withNextRecordId withReplica meaning
     write-from h t =
-        let f = write-accepted s a h in
+        let f = write-accepted s a .0 h in
         let n =
         put-iff s d u m a (append own (nextRecord s a)) (logs-with (written (nextRecordId s)) (own .end)) (u .replicaState)
         (u .nextRecordId + 1) (nextRecordId s + 1) (u .quorumState) (s .quorum) (ap (λ n. n + 1) (m .nextRecordId)) (m .quorumState)
@@ -125,7 +120,7 @@ module _ (s : State) (d : Sound (s .limits) s) (u : ModelState) (m : Means (s .l
           omega (arith, f .id),
           f .room,
           (
-            ap (λ (p : LocalState). p .leader) (state-at s u m a l) ∙ ap leaderOf (f .itself),
+            presumes-iff s u m a l .1 (f .presumes),
             (sym (m .nextRecordId), omega (arith, f .id), n .nextRecordId),
             (f .room, sym (log-at s u m a l .end), n .replicaLog),
             n .replicaState,
@@ -186,13 +181,6 @@ module _ (s : State) (d : Sound (s .limits) s) (u : ModelState) (m : Means (s .l
           other-states = except-other (u .replicaState) a _;
         }
 
-    replicate-accepted-by : ReplicaPresumesLeadership u b → ReplicaIsFollowing u a b → own .end < leading .end → followerReplicateRefusal s a b ≡ accepted
-    unfolding followerReplicateRefusal
-    replicate-accepted-by p f h =
-        refuse-none _ _ _ (ap not (presumes-iff s u m b lb .0 p))
-        (refuse-none _ _ _ (ap not (following-iff s u m a b l .0 f))
-        (refuse-none _ _ _ (ap not (lt-ltb (own .end) (leading .end) h)) refl))
-
     replicate-to : FollowerReplicateWith k u v a b → (followerReplicateRefusal s a b ≡ accepted) × Means (s .limits) v (followerReplicate s a b)
     unfolding followerReplicate
     replicate-to t =
@@ -203,7 +191,12 @@ module _ (s : State) (d : Sound (s .limits) s) (u : ModelState) (m : Means (s .l
         let log = log-at s u m b lb in
         let o : offset ≡ own .end = add .1 ∙ log-at s u m a l .end in
         let q : r ≡ recordOf copied = sym (entry .1) ∙ log .entry offset (entry .0) ∙ ap (λ x. recordOf (recordAt leading x)) o in (
-          replicate-accepted-by (t .0) (t .1) (omega (arith, entry .0, log .end, o)),
+          replicate-accepted s a b .1
+              (record {
+                presumes = presumes-iff s u m b lb .0 (t .0);
+                follows = following-iff s u m a b l .0 (t .1);
+                behind = omega (arith, entry .0, log .end, o);
+              }),
           put-only-iff s d u m a replicated (logs-with r offset) states-with (replicates r offset q o (omega (arith, add .0, o))) v .0
               (record {
                 replicaLog = add .2;
@@ -216,19 +209,17 @@ module _ (s : State) (d : Sound (s .limits) s) (u : ModelState) (m : Means (s .l
         )
 
     replicate-from : followerReplicateRefusal s a b ≡ accepted → Means (s .limits) v (followerReplicate s a b) → FollowerReplicateWith k u v a b
-    unfolding followerReplicateRefusal followerReplicate
+    unfolding followerReplicate
     replicate-from h t =
-        let p = refuse-zero _ _ _ h in
-        let q = refuse-zero _ _ _ (p .1) in
-        let more : own .end < leading .end = ltb-true _ _ (not-false _ (refuse-zero _ _ _ (q .1) .0)) in
-        let room : own .end < logSize (s .limits) = omega (arith, more, d .rules .s2 .ends b lb) in
+        let f = replicate-accepted s a b .0 h in
+        let room : own .end < logSize (s .limits) = omega (arith, f .behind, d .rules .s2 .ends b lb) in
         let log = log-at s u m b lb in
-        let below : own .end < u .replicaLog b .end = omega (arith, log .end, more) in
+        let below : own .end < u .replicaLog b .end = omega (arith, log .end, f .behind) in
         let n =
         put-only-iff s d u m a replicated (logs-with (recordOf copied) (own .end)) states-with
         (replicates (recordOf copied) (own .end) refl refl room) v .1 t in (
-          presumes-iff s u m b lb .1 (not-false _ (p .0)),
-          following-iff s u m a b l .1 (not-false _ (q .0)),
+          presumes-iff s u m b lb .1 (f .presumes),
+          following-iff s u m a b l .1 (f .follows),
           (
             recordOf copied,
             own .end,

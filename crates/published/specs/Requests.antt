@@ -2,12 +2,12 @@
 -- and replica a as the follower, is the engine's. Assumes nothing.
 use Prim.Native.Nat.{ℕ, _≤_, _<_, min}
 use mathlib.Core.Path.{_≡_, refl, sym, _∙_, ap, subst}
-use mathlib.Core.Bool.{true, false}
+use mathlib.Core.Bool.{true}
 use mathlib.Core.Option.{Option, none, some, Option·none-ne-some, Option·some-injective}
 use mathlib.Core.Logic.{_↔_, _≢_, _⊎_, inl, inr, Iff·rfl}
 use native.Mathlib.Omega.{arith}
 use lib.IntN.{pos}
-use borrow.Author.Tests.{lt-leb, lt-ltb, ltb-true}
+use borrow.Author.Tests.{lt-ltb, ltb-true}
 use Rattle.logic.specs.Refuse.{refuse-zero, refuse-none}
 use Rattle.parts.specs.declared.Leader.{Leader}
 use Rattle.parts.specs.declared.Leader.the-variants.{None, Broker}
@@ -21,7 +21,7 @@ use Rattle.replica.specs.Change.{withHw, withEnd, withRequest, truncateTo, trun
 use Rattle.parts.specs.Leader.{names}
 use Rattle.cluster.specs.declared.State.{State}
 use Rattle.cluster.specs.State.{replicaCount, nextLeaderEpoch, requestAt, replicaAt}
-use Rattle.cluster.specs.Actions.{epochNotAbove, leaderRefusal, becomeLeaderRefusal, leadBy, becomeLeader, becomeFollowerRefusal, becomeFollower, becomeFollowerAndTruncateToHw, requestMissing}
+use Rattle.cluster.specs.Actions.{leaderRefusal, becomeLeaderRefusal, leadBy, becomeLeader, becomeFollowerRefusal, becomeFollower, becomeFollowerAndTruncateToHw}
 use Rattle.cluster.specs.Accepted.{become-leader-accepted, become-follower-accepted}
 use Rattle.actions.specs.Sound.{Sound}
 use Rattle.published.specs.KafkaReplication.{Constants, _isIn_, Replicas, ReplicaOpt, except, Log, LocalState, LeaderAndIsr, ModelState, SameLog, SameLogs, ReplicaLog·TruncateTo, Min, UnchangedReplicaLog, BecomeLeaderWith, BecomeFollowerAndTruncateToWith}
@@ -54,10 +54,6 @@ module _ (s : State) (d : Sound (s .limits) s) (u : ModelState) (m : Means (s .l
   sent-in : (e : ℕ) → e < nextLeaderEpoch s → u .leaderAndIsrRequests (requestOf s e)
   unfolding meaning
   sent-in e l = m .leaderAndIsrRequests (requestOf s e) .1 (e, l, refl)
-
-  present : (e : ℕ) → e < nextLeaderEpoch s → requestMissing s e ≡ false
-  unfolding requestMissing
-  present e l = lt-leb (nextLeaderEpoch s) e l
 
   -- ---- kind 2
   -- the local state that a leader takes from request e
@@ -120,19 +116,19 @@ module _ (s : State) (d : Sound (s .limits) s) (u : ModelState) (m : Means (s .l
       )
 
   -- BecomeLeader with the request of epoch e
-  abbrev Leads : ℕ → Type 0
-  Leads e = (becomeLeaderRefusal s e ≡ accepted) × Means (s .limits) v (becomeLeader s e)
+  abbrev LeadStep : ℕ → Type 0
+  LeadStep e = (becomeLeaderRefusal s e ≡ accepted) × Means (s .limits) v (becomeLeader s e)
 
   pub become-leader-iff : (e : ℕ)
-      → ((request : LeaderAndIsr) × u .leaderAndIsrRequests request × (request .leaderEpoch ≡ pos e) × BecomeLeaderWith k u v request) ↔ Leads e
-  unfolding becomeLeader becomeLeaderRefusal
+      → ((request : LeaderAndIsr) × u .leaderAndIsrRequests request × (request .leaderEpoch ≡ pos e) × BecomeLeaderWith k u v request) ↔ LeadStep e
+  unfolding becomeLeader
   become-leader-iff e = (
     (λ t.
         let h = sent-of (t .0) e (t .1) (t .2) in
         let n = lead-iff e (h .used) (requestAt s e .leader) refl .0 (rw (h .is) at (t .3)) in
-        (refuse-none _ _ _ (present e (h .used)) (n .0), n .1)),
+        (become-leader-accepted s e .1 (h .used, n .0), n .1)),
     (λ t.
-        let f = become-leader-accepted s e (t .0) in
+        let f = become-leader-accepted s e .0 (t .0) in
         (requestOf s e, sent-in e (f .0), refl, lead-iff e (f .0) (requestAt s e .leader) refl .1 (f .1, t .1))),
   )
 
@@ -215,26 +211,16 @@ module _ (s : State) (d : Sound (s .limits) s) (u : ModelState) (m : Means (s .l
     request-names : leaderOf (requestAt s e .leader) ≡ some a ↔ names (requestAt s e .leader) a ≡ true
     request-names = leader-names-iff (requestAt s e .leader) a
 
-    abbrev Follows : Type 0
-    Follows = (becomeFollowerRefusal s a e ≡ accepted) × Means (s .limits) v (becomeFollower s a e truncationOffset)
+    abbrev FollowStep : Type 0
+    FollowStep = (becomeFollowerRefusal s a e ≡ accepted) × Means (s .limits) v (becomeFollower s a e truncationOffset)
 
-    accepted-by : names (requestAt s e .leader) a ≡ false → epochNotAbove s a e ≡ false → becomeFollowerRefusal s a e ≡ accepted
-    unfolding becomeFollowerRefusal
-    accepted-by n h = refuse-none _ _ _ (present e used) (refuse-none _ _ _ n (refuse-none _ _ _ h refl))
-
-    accepted-says : becomeFollowerRefusal s a e ≡ accepted → (names (requestAt s e .leader) a ≡ false) × (epochNotAbove s a e ≡ false)
-    unfolding becomeFollowerRefusal
-    accepted-says h =
-        let p = refuse-zero _ _ _ (refuse-zero _ _ _ h .1) in
-        (p .0, refuse-zero _ _ _ (p .1) .0)
-
-    pub follow-iff : BecomeFollowerAndTruncateToWith k u v (leaderOf (requestAt s e .leader)) a truncationOffset (requestOf s e) ↔ Follows
+    pub follow-iff : BecomeFollowerAndTruncateToWith k u v (leaderOf (requestAt s e .leader)) a truncationOffset (requestOf s e) ↔ FollowStep
     unfolding becomeFollower
     follow-iff =
         let above = epoch-above-iff s u m a e l in
         let put = put-only-iff s d u m a follower-after (logs-under (requestAt s e .leader)) states-followed follows v in (
           (λ t. (
-            accepted-by (refuted-iff _ request-names .0 (t .0)) (above .0 (t .2)),
+            become-follower-accepted s a e .1 (used, refuted-iff _ request-names .0 (t .0), above .0 (t .2)),
             put .0
                 (record {
                   replicaLog = log-cases-iff (requestAt s e .leader) .0 (t .3);
@@ -246,11 +232,11 @@ module _ (s : State) (d : Sound (s .limits) s) (u : ModelState) (m : Means (s .l
                 }),
           )),
           (λ t.
-              let f = accepted-says (t .0) in
+              let f = become-follower-accepted s a e .0 (t .0) in
               let n = put .1 (t .1) in (
-                refuted-iff _ request-names .1 (f .0),
+                refuted-iff _ request-names .1 (f .1),
                 refl,
-                above .1 (f .1),
+                above .1 (f .2),
                 log-cases-iff (requestAt s e .leader) .1 (n .replicaLog),
                 n .replicaState,
                 n .nextRecordId,
@@ -288,7 +274,7 @@ module _ (s : State) (d : Sound (s .limits) s) (u : ModelState) (m : Means (s .l
         let n = follow-iff a e (replicaAt s a .hw) low (h .used) (d .rules .s5 a low .hw) .0 body in
         (low, n .0, n .1)),
     (λ t.
-        let used = become-follower-accepted s a e (t .1) in (
+        let used = become-follower-accepted s a e .0 (t .1) .0 in (
           leaderOf (requestAt s e .leader),
           leader-opt (s .limits) (requestAt s e .leader) (d .rules .s2 .requests e used .below),
           lt-ltb a R (t .0),

@@ -12,7 +12,7 @@ replica-at-requires c κs = replica-five (c .args .self) (c .pre .0) (c .args .a
 become-follower-requires : tie.Need-become-follower-requires
 become-follower-requires c κs =
     let x = c .before .args in
-    (replica-five (x .self) (c .before .pre .0) (x .a) (c .before .pre .1 .0), request-small (x .self) (c .before .pre .0) (x .e) (become-follower-accepted (x .self) (x .a) (x .e) (c .before .pre .1 .1)))
+    (replica-five (x .self) (c .before .pre .0) (x .a) (c .before .pre .1 .0), request-small (x .self) (c .before .pre .0) (x .e) (become-follower-accepted (x .self) (x .a) (x .e) .0 (c .before .pre .1 .1) .0))
 
 returns : tie.Need-returns
 unfolding becomeFollowerAndTruncateToHw

@@ -8,11 +8,11 @@ use Rattle.cluster.proofs.State.become_leader.Statement.{statement}
 use Rattle.cluster.proofs.State.become_leader.Tie as tie
 
 request-at-requires : tie.Need-request-at-requires
-request-at-requires c κs = request-small (c .args .self) (c .pre .0) (c .args .e) (become-leader-accepted (c .args .self) (c .args .e) (c .pre .1) .0)
+request-at-requires c κs = request-small (c .args .self) (c .pre .0) (c .args .e) (become-leader-accepted (c .args .self) (c .args .e) .0 (c .pre .1) .0)
 
 lead-by-requires : tie.Need-lead-by-requires
 lead-by-requires c κs =
-    let sent = become-leader-accepted (c .before .args .self) (c .before .args .e) (c .before .pre .1) .0 in (
+    let sent = become-leader-accepted (c .before .args .self) (c .before .args .e) .0 (c .before .pre .1) .0 in (
       request-small (c .before .args .self) (c .before .pre .0) (c .before .args .e) sent,
       ap (λ (q : Request). leaderBelow 5 (q .leader)) (c .request-at .ensures) ∙ request-leader-below (c .before .args .self) (c .before .pre .0) (c .before .args .e) sent,
     )

@@ -8,7 +8,7 @@ use Rattle.cluster.proofs.State.controller_elect_leader.Tie as tie
 controller-update-isr-requires : tie.Need-controller-update-isr-requires
 controller-update-isr-requires c κs =
     let x = c .before .args in
-    request-room (x .self) (c .before .pre .0) (elect-accepted (x .self) (x .a) (rules-iff (x .self) .0 (c .before .pre .0) .s1) (c .before .pre .1) .1)
+    request-room (x .self) (c .before .pre .0) (elect-accepted (x .self) (x .a) (rules-iff (x .self) .0 (c .before .pre .0) .s1) .0 (c .before .pre .1) .2)
 
 returns : tie.Need-returns
 unfolding controllerElectLeader

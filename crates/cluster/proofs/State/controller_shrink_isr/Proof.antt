@@ -15,7 +15,7 @@ use Rattle.cluster.proofs.State.controller_shrink_isr.Tie as tie
 allowed : (z : tie.After-q) → (member (z .before .args .self .quorum .isr) (z .before .args .a) ≡ true) × EpochLeft (z .before .args .self)
 allowed z =
     let x = z .before .args in
-    controller-shrink-accepted (x .self) (x .a) (rules-iff (x .self) .0 (z .before .pre .0) .s1) (z .before .pre .1)
+    controller-shrink-accepted (x .self) (x .a) (rules-iff (x .self) .0 (z .before .pre .0) .s1) .0 (z .before .pre .1)
 
 without-member-requires : tie.Need-without-member-requires
 without-member-requires c κs = quorum-isr-small (c .before .args .self) (c .before .pre .0)
