@@ -4,8 +4,8 @@ pub mod Choices
 pub mod Equality
 pub mod Sets
 pub mod Types
-pub mod Start
 pub mod OneToOne
+pub mod Start
 pub mod Reading
 pub mod Properties
 pub mod Changes

@@ -14,6 +14,7 @@ use Rattle.parts.specs.declared.Leader.the-variants.{None, Broker}
 use Rattle.parts.specs.Refusal.{accepted}
 use Rattle.parts.specs.Isr.{member}
 use Rattle.parts.specs.EpochLaws.{pos-injective}
+use Rattle.parts.specs.LeaderLaws.{none-broker}
 use Rattle.replica.specs.declared.Replica.{Replica}
 use Rattle.replica.specs.Replica.{tidyReplica}
 use Rattle.replica.specs.ReplicaLaws.{tidy-replica-same}
@@ -132,8 +133,8 @@ module _ (s : State) (d : Sound (s .limits) s) (u : ModelState) (m : Means (s .l
         (requestOf s e, sent-in e (f .0), refl, lead-iff e (f .0) (requestAt s e .leader) refl .1 (f .1, t .1))),
   )
 
-  -- ---- kind 3, with any truncation offset that is at most a's end
-  module _ (a e truncationOffset : ℕ) (l : a < R) (used : e < nextLeaderEpoch s) (fits : truncationOffset ≤ replicaAt s a .end) where
+  -- ---- kind 3, with any truncation offset
+  module _ (a e truncationOffset : ℕ) (l : a < R) (used : e < nextLeaderEpoch s) where
     abbrev own : Replica
     own = replicaAt s a
 
@@ -162,9 +163,9 @@ module _ (s : State) (d : Sound (s .limits) s) (u : ModelState) (m : Means (s .l
     logs-under (Broker b) = except (u .replicaLog) a cut
 
     -- a log of the model that is cut is that of the replica cut there
-    cut-log : SameLog cut (logOf (truncateTo own truncationOffset))
+    cut-log : truncationOffset ≤ own .end → SameLog cut (logOf (truncateTo own truncationOffset))
     unfolding truncateTo withEnd tidyReplica
-    cut-log =
+    cut-log fits =
         record {
           end = omega (arith, fits);
           entry = λ offset h.
@@ -176,20 +177,24 @@ module _ (s : State) (d : Sound (s .limits) s) (u : ModelState) (m : Means (s .l
               (omega (arith, h, fits))));
         }
 
-    follower-log : (leader : Leader) → SameLog (logs-under leader a) (logOf (truncateUnder leader own truncationOffset))
+    -- where the request names a leader, the offset is at most a's end
+    abbrev Fits : Leader → Type 0
+    Fits leader = (b : ℕ) → leader ≡ Broker b → truncationOffset ≤ own .end
+
+    follower-log : (leader : Leader) → Fits leader → SameLog (logs-under leader a) (logOf (truncateUnder leader own truncationOffset))
     unfolding truncateUnder
-    follower-log None = log-at s u m a l
-    follower-log (Broker b) = rw (except-same (u .replicaLog) a cut) cut-log
+    follower-log None fits = log-at s u m a l
+    follower-log (Broker b) fits = rw (except-same (u .replicaLog) a cut) (cut-log (fits b refl))
 
     other-log : (leader : Leader) (r : ℕ) → (r ≡ a → ⊥) → logs-under leader r ≡ u .replicaLog r
     other-log None r n = refl
     other-log (Broker b) r n = except-other (u .replicaLog) a cut r n
 
-    follows : Becomes u a follower-after (logs-under (requestAt s e .leader)) states-followed
+    follows : Fits (requestAt s e .leader) → Becomes u a follower-after (logs-under (requestAt s e .leader)) states-followed
     unfolding becomeFollowerAndTruncateTo withRequest withHw
-    follows =
+    follows fits =
         record {
-          own-log = follower-log (requestAt s e .leader);
+          own-log = follower-log (requestAt s e .leader) fits;
           other-logs = other-log (requestAt s e .leader);
           own-state = except-same (u .replicaState) a _ ∙ ap followed (state-at s u m a l);
           other-states = except-other (u .replicaState) a _;
@@ -201,43 +206,54 @@ module _ (s : State) (d : Sound (s .limits) s) (u : ModelState) (m : Means (s .l
         ((leaderOf leader ≡ none) × UnchangedReplicaLog k u v)
         ⊎ ((leaderOf leader ≢ none) × ReplicaLog·TruncateTo k u v a truncationOffset)
 
-    log-cases-iff : (leader : Leader) → LogCases leader ↔ SameLogs k (v .replicaLog) (logs-under leader)
-    log-cases-iff None = ((λ t. elim t [ inl h ↦ h .1 | inr h ↦ absurd (h .0 refl) ]), (λ h. inl (refl, h)))
+    log-cases-iff : (leader : Leader) → LogCases leader ↔ Fits leader × SameLogs k (v .replicaLog) (logs-under leader)
+    log-cases-iff None = (
+      (λ t. elim t [ inl h ↦ ((λ b q. absurd (none-broker b q)), h .1) | inr h ↦ absurd (h .0 refl) ]),
+      (λ h. inl (refl, h .1)),
+    )
     log-cases-iff (Broker b) = (
-      (λ t. elim t [ inl h ↦ absurd (Option·none-ne-some b (sym (h .0))) | inr h ↦ h .1 .1 ]),
-      (λ h. inr ((λ q. Option·none-ne-some b (sym q)), (omega (arith, log-at s u m a l .end, fits), h))),
+      (λ t. elim t [
+        | inl h ↦ absurd (Option·none-ne-some b (sym (h .0)))
+        | inr h ↦ ((λ c q. omega (arith, log-at s u m a l .end, h .1 .0)), h .1 .1)
+      ]),
+      (λ h. inr ((λ q. Option·none-ne-some b (sym q)), (omega (arith, log-at s u m a l .end, h .0 b refl), h .1))),
     )
 
     request-names : leaderOf (requestAt s e .leader) ≡ some a ↔ names (requestAt s e .leader) a ≡ true
     request-names = leader-names-iff (requestAt s e .leader) a
 
     abbrev FollowStep : Type 0
-    FollowStep = (becomeFollowerRefusal s a e ≡ accepted) × Means (s .limits) v (becomeFollower s a e truncationOffset)
+    FollowStep =
+        (becomeFollowerRefusal s a e ≡ accepted)
+        × Fits (requestAt s e .leader)
+        × Means (s .limits) v (becomeFollower s a e truncationOffset)
 
     pub follow-iff : BecomeFollowerAndTruncateToWith k u v (leaderOf (requestAt s e .leader)) a truncationOffset (requestOf s e) ↔ FollowStep
     unfolding becomeFollower
     follow-iff =
         let above = epoch-above-iff s u m a e l in
-        let put = put-only-iff s d u m a follower-after (logs-under (requestAt s e .leader)) states-followed follows v in (
-          (λ t. (
-            become-follower-accepted s a e .1 (used, refuted-iff _ request-names .0 (t .0), above .0 (t .2)),
-            put .0
-                (record {
-                  replicaLog = log-cases-iff (requestAt s e .leader) .0 (t .3);
-                  replicaState = t .4;
-                  nextRecordId = t .5;
-                  quorumState = t .6;
-                  nextLeaderEpoch = t .7;
-                  leaderAndIsrRequests = t .8;
-                }),
-          )),
+        let put = put-only-iff s d u m a follower-after (logs-under (requestAt s e .leader)) states-followed in (
+          (λ t.
+              let log = log-cases-iff (requestAt s e .leader) .0 (t .3) in (
+                become-follower-accepted s a e .1 (used, refuted-iff _ request-names .0 (t .0), above .0 (t .2)),
+                log .0,
+                put (follows (log .0)) v .0
+                    (record {
+                      replicaLog = log .1;
+                      replicaState = t .4;
+                      nextRecordId = t .5;
+                      quorumState = t .6;
+                      nextLeaderEpoch = t .7;
+                      leaderAndIsrRequests = t .8;
+                    }),
+              )),
           (λ t.
               let f = become-follower-accepted s a e .0 (t .0) in
-              let n = put .1 (t .1) in (
+              let n = put (follows (t .1)) v .1 (t .2) in (
                 refuted-iff _ request-names .1 (f .1),
                 refl,
                 above .1 (f .2),
-                log-cases-iff (requestAt s e .leader) .1 (n .replicaLog),
+                log-cases-iff (requestAt s e .leader) .1 (t .1, n .replicaLog),
                 n .replicaState,
                 n .nextRecordId,
                 n .quorumState,
@@ -271,8 +287,8 @@ module _ (s : State) (d : Sound (s .limits) s) (u : ModelState) (m : Means (s .l
         let low : a < R = ltb-true a R (t .2) in
         let h = sent-of (t .3) e (t .4) (t .5) in
         let body = rw (sym (t .6 .1), h .is) at (hw-offset a (t .0) (t .3) low .0 (t .6)) in
-        let n = follow-iff a e (replicaAt s a .hw) low (h .used) (d .rules .s5 a low .hw) .0 body in
-        (low, n .0, n .1)),
+        let n = follow-iff a e (replicaAt s a .hw) low (h .used) .0 body in
+        (low, n .0, n .2)),
     (λ t.
         let used = become-follower-accepted s a e .0 (t .1) .0 in (
           leaderOf (requestAt s e .leader),
@@ -281,6 +297,7 @@ module _ (s : State) (d : Sound (s .limits) s) (u : ModelState) (m : Means (s .l
           requestOf s e,
           sent-in e used,
           refl,
-          hw-offset a _ _ (t .0) .1 (follow-iff a e (replicaAt s a .hw) (t .0) used (d .rules .s5 a (t .0) .hw) .1 (t .1, t .2)),
+          hw-offset a _ _ (t .0) .1
+              (follow-iff a e (replicaAt s a .hw) (t .0) used .1 (t .1, (λ b q. d .rules .s5 a (t .0) .hw), t .2)),
         )),
   )

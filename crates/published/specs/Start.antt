@@ -4,7 +4,7 @@ use Prim.Native.Nat.{ℕ, _<_}
 use mathlib.Core.Path.{_≡_, refl, sym, _∙_, ap, subst}
 use mathlib.Core.Bool.{true}
 use mathlib.Core.Option.{none, some, Option·none-ne-some}
-use mathlib.Core.Logic.{_⊎_, inl, inr, Iff·symm, Iff·trans}
+use mathlib.Core.Logic.{_↔_, _⊎_, inl, inr, Iff·symm, Iff·trans}
 use native.Mathlib.Omega.{arith}
 use lib.IntN.{ℤ, pos}
 use borrow.Author.Tests.{ltb-true}
@@ -22,7 +22,8 @@ use Rattle.cluster.specs.Predicates.{Rules, rules-iff}
 use Rattle.cluster.specs.Fresh.{freshReplica, freshState, fresh}
 use Rattle.cluster.specs.FreshLaws.{fresh-replica, fresh-accepted}
 use Rattle.published.specs.KafkaReplication.{Constants, ReplicaSet, _isIn_, Replicas, Nil, LeaderAndIsr, Log, ModelState, SameLog, SameModelState, Init, LeaderInIsr}
-use Rattle.published.specs.Meaning.{constantsOf, localStateOf, leaderAndIsrOf, meaning, Means}
+use Rattle.published.specs.Meaning.{constantsOf, leaderOf, localStateOf, leaderAndIsrOf, meaning, Means}
+use Rattle.published.specs.OneToOne.{leader-of-injective}
 use Rattle.published.specs.Sets.{member-none, member-full}
 
 -- ---- the fresh state
@@ -74,6 +75,14 @@ init-is-fresh c h u i = init-same (constantsOf c) u (meaning (fresh c .state)) i
 pub fresh-leader-in-no-isr : (c : Limits) → fresh c .refusal ≡ accepted → ¬ (LeaderInIsr (meaning (fresh c .state)))
 fresh-leader-in-no-isr c h m =
     Option·none-ne-some (m .0) (sym (ap (λ (q : LeaderAndIsr). q .leader) (fresh-init c h .quorumState)) ∙ m .1)
+
+-- of a state it says that there is a leader, which is in the quorum's ISR
+pub leader-in-isr-iff : (s : State) → LeaderInIsr (meaning s) ↔ (b : ℕ) × (s .quorum .leader ≡ Broker b) × (member (s .quorum .isr) b ≡ true)
+unfolding meaning
+leader-in-isr-iff s = (
+  (λ t. (t .0, leader-of-injective (s .quorum .leader) (Broker (t .0)) (t .1), t .2)),
+  (λ t. (t .0, ap leaderOf (t .1), t .2)),
+)
 
 -- S4, of the quorum or of a request: LeaderInIsr, or no leader
 abbrev pub NoneOrInIsr : LeaderAndIsr → Type 0
