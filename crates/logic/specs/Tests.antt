@@ -61,6 +61,11 @@ either true true h e = refl
 either true false h e = sym e
 either false b h e = h
 
+-- what a test decides does not hold exactly where the test is false
+pub refuted-iff : {A : Type 0} (b : Bool) → A ↔ b ≡ true → (¬ A) ↔ b ≡ false
+refuted-iff true h = ((λ n. absurd (n (h .1 refl))), (λ e. absurd (true-false e)))
+refuted-iff false h = ((λ n. refl), (λ e a. true-false (sym (h .0 a))))
+
 -- the two tests answer alike
 unfoldable pub sameTruth : Bool → Bool → Bool
 sameTruth true b = b

@@ -104,6 +104,17 @@ unfolding requestPlace epochUsed
 used-place next (pos n) h = ltb-true n next h
 used-place next (negsuc n) h = absurd (true-false (sym h))
 
+-- the last epoch used is below the next one, or -1
+pub last-used : (next e : ℕ) → lastEpoch next ≡ pos e → e < next
+unfolding lastEpoch
+last-used zero e q = absurd (pos-negsuc e 0 (sym q))
+last-used (suc n) e q = omega (arith, pos-injective n e q)
+
+pub last-low : (next n : ℕ) → lastEpoch next ≡ negsuc n → n ≡ 0
+unfolding lastEpoch
+last-low zero n q = negsuc-injective n 0 (sym q)
+last-low (suc e) n q = absurd (pos-negsuc e n q)
+
 -- the last epoch used, as the bits of the next epoch minus 1
 pub last-zero : (next : ℕ) → next ≡ 0 → negsuc 0 ≡ lastEpoch next
 unfolding lastEpoch

@@ -149,11 +149,15 @@ power-small n h = leb-true (2 ^ n) 32 (all-at 6 (λ (m : ℕ). leb (2 ^ m) 32) r
 pub below-32 : (n isr : ℕ) → n ≤ 5 → isr < 2 ^ n → isr < 32
 below-32 n isr h l = omega (arith, power-small n h)
 
+-- so the members of an ISR within n replicas are among them
+pub member-within : (n isr : ℕ) → n ≤ 5 → isr < 2 ^ n → (i : ℕ) → member isr i ≡ true → i < n
+member-within n isr h l = within-iff n isr h (below-32 n isr h l) .0 l
+
 pub without-below : (n isr a : ℕ) → n ≤ 5 → isr < 2 ^ n → without isr a < 2 ^ n
 unfolding without
 without-below n isr a h l =
     within-iff n (without isr a) h (isrOf-small _) .1
-    (λ i m. within-iff n isr h (below-32 n isr h l) .0 l i (and-left (member isr i) (not (eqb i a)) (sym (member-without isr a i) ∙ m)))
+    (λ i m. member-within n isr h l i (and-left (member isr i) (not (eqb i a)) (sym (member-without isr a i) ∙ m)))
 
 pub including-below : (n isr a : ℕ) → n ≤ 5 → isr < 2 ^ n → a < n → including isr a < 2 ^ n
 unfolding including
@@ -162,7 +166,7 @@ including-below n isr a h l k =
     (λ i m. at i (member isr i) refl (sym (member-including isr a i (member-below _ i m)) ∙ m))
   where
     at : (i : ℕ) (b : Bool) → member isr i ≡ b → b || eqb i a ≡ true → i < n
-    at i true e m = within-iff n isr h (below-32 n isr h l) .0 l i e
+    at i true e m = member-within n isr h l i e
     at i false e m = let q : i ≡ a = eqb-true i a m in omega arith
 
 -- ---- the same as sums and differences of bytes

@@ -16,14 +16,13 @@ use Rattle.replica.specs.declared.Replica.{Replica}
 use Rattle.replica.specs.Replica.{noReplica}
 use Rattle.cluster.specs.declared.Limits.{Limits}
 use Rattle.cluster.specs.declared.Quorum.{Quorum}
-use Rattle.cluster.specs.declared.Request.{Request}
 use Rattle.cluster.specs.declared.State.{State}
 use Rattle.cluster.specs.State.{replicaCount, nextLeaderEpoch, nextRecordId, stateOf, withReplica, controllerUpdateIsr}
 use Rattle.cluster.specs.Accepted.{EpochLeft}
 use Rattle.actions.specs.Sound.{Sound}
 use Rattle.actions.specs.Request.{request-old, request-new}
 use Rattle.published.specs.KafkaReplication.{except, Log, LocalState, LeaderAndIsr, requestsPlus, ModelState, SameLog, SameModelState}
-use Rattle.published.specs.Meaning.{constantsOf, logOf, localStateOf, leaderAndIsrOf, requestOf, meaning, Means}
+use Rattle.published.specs.Meaning.{constantsOf, logOf, localStateOf, leaderAndIsrOf, quorumOf, requestOf, requestSent, meaning, Means}
 use Rattle.published.specs.Reading.{state-at, log-at}
 use Rattle.published.specs.Equality.{same-model-trans, same-model-sym}
 
@@ -62,22 +61,23 @@ pub record Becomes (u : ModelState) (a : ℕ) (p : Replica) (logs : ℕ → Log)
   pub own-state : states a ≡ localStateOf p
   pub other-states : (r : ℕ) → (r ≡ a → ⊥) → states r ≡ u .replicaState r
 
+-- u with these logs, local states, next id and quorum
+abbrev pub withChanges : ModelState → (ℕ → Log) → (ℕ → LocalState) → ℕ → LeaderAndIsr → ModelState
+withChanges u logs states nextId quorum = modelOf logs states nextId (u .nextLeaderEpoch) (u .leaderAndIsrRequests) quorum
+
 module _ (s : State) (d : Sound (s .limits) s) (u : ModelState) (m : Means (s .limits) u s) where
   -- ---- replica a becomes p
   module _ (a : ℕ) (p : Replica) (logs : ℕ → Log) (states : ℕ → LocalState) where
-    -- with the next id n and the quorum q
-    abbrev changed-by-put : ℕ → LeaderAndIsr → ModelState
-    changed-by-put n q = modelOf logs states n (u .nextLeaderEpoch) (u .leaderAndIsrRequests) q
-
+    -- with another next id and quorum
     abbrev put : ℕ → Quorum → State
     put nextId quorum = stateOf (s .limits) (nextLeaderEpoch s) nextId quorum (s .requests) (set (s .replicas) a p)
 
     pub put-iff : (n nextId : ℕ) (q : LeaderAndIsr) (quorum : Quorum) → n ≡ nextId
-        → q ≡ leaderAndIsrOf (quorum .epoch) (quorum .leader) (quorum .isr) → Becomes u a p logs states → (v : ModelState)
-        → SameModelState (constantsOf (s .limits)) v (changed-by-put n q) ↔ Means (s .limits) v (put nextId quorum)
+        → q ≡ quorumOf quorum → Becomes u a p logs states → (v : ModelState)
+        → SameModelState (constantsOf (s .limits)) v (withChanges u logs states n q) ↔ Means (s .limits) v (put nextId quorum)
     unfolding meaning
     put-iff n nextId q quorum id-is quorum-is b v =
-        means-iff (s .limits) v (changed-by-put n q) (put nextId quorum)
+        means-iff (s .limits) v (withChanges u logs states n q) (put nextId quorum)
         (record {
           replicaLog = λ r h.
               let l : r < replicaCount (s .limits) = ltb-true r _ h in
@@ -98,7 +98,7 @@ module _ (s : State) (d : Sound (s .limits) s) (u : ModelState) (m : Means (s .l
 
     -- with the next id and the quorum as they were
     pub put-only-iff : Becomes u a p logs states → (v : ModelState)
-        → SameModelState (constantsOf (s .limits)) v (changed-by-put (u .nextRecordId) (u .quorumState)) ↔ Means (s .limits) v (withReplica s a p)
+        → SameModelState (constantsOf (s .limits)) v (withChanges u logs states (u .nextRecordId) (u .quorumState)) ↔ Means (s .limits) v (withReplica s a p)
     unfolding meaning withReplica
     put-only-iff = put-iff (u .nextRecordId) (nextRecordId s) (u .quorumState) (s .quorum) (m .nextRecordId) (m .quorumState)
 
@@ -110,39 +110,31 @@ module _ (s : State) (d : Sound (s .limits) s) (u : ModelState) (m : Means (s .l
     abbrev new : LeaderAndIsr
     new = leaderAndIsrOf (pos (nextLeaderEpoch s)) leader isr
 
-    -- what the request of an epoch is
-    of-request : ℕ → Request → LeaderAndIsr
-    of-request e q = leaderAndIsrOf (pos e) (q .leader) (q .isr)
+    old-is : (e : ℕ) → e < nextLeaderEpoch s → requestSent next e ≡ requestSent s e
+    old-is e l = ap (requestOf e) (request-old (s .limits) s d leader isr left e l)
 
-    old-is : (e : ℕ) → e < nextLeaderEpoch s → requestOf next e ≡ requestOf s e
-    unfolding of-request
-    old-is e l = ap (of-request e) (request-old (s .limits) s d leader isr left e l)
-
-    new-is : requestOf next (nextLeaderEpoch s) ≡ new
-    unfolding of-request
-    new-is = ap (of-request (nextLeaderEpoch s)) (request-new (s .limits) s d leader isr left)
+    new-is : requestSent next (nextLeaderEpoch s) ≡ new
+    new-is = ap (requestOf (nextLeaderEpoch s)) (request-new (s .limits) s d leader isr left)
 
     -- the requests are those before and the new one
     requests-iff : (request : LeaderAndIsr)
         → requestsPlus (u .leaderAndIsrRequests) new request
-        ↔ ((e : ℕ) × (e < nextLeaderEpoch s + 1) × (request ≡ requestOf next e))
+        ↔ ((e : ℕ) × (e < nextLeaderEpoch s + 1) × (request ≡ requestSent next e))
     unfolding meaning
-    requests-iff request = (to, from)
-      where
-        to : requestsPlus (u .leaderAndIsrRequests) new request → (e : ℕ) × (e < nextLeaderEpoch s + 1) × (request ≡ requestOf next e)
-        to (inl h) =
+    requests-iff request = (
+      (λ t. elim t [
+        | inl h ↦
             let o = m .leaderAndIsrRequests request .0 h in
             (o .0, omega (arith, o .1), o .2 ∙ sym (old-is (o .0) (o .1)))
-        to (inr q) = (nextLeaderEpoch s, omega arith, q ∙ sym new-is)
-
-        from : (e : ℕ) × (e < nextLeaderEpoch s + 1) × (request ≡ requestOf next e) → requestsPlus (u .leaderAndIsrRequests) new request
-        from o =
-            elim (ℕ-discrete (o .0) (nextLeaderEpoch s)) [
-              | yes q ↦ inr (o .2 ∙ ap (requestOf next) q ∙ new-is)
-              | no q ↦
-                  let l : o .0 < nextLeaderEpoch s = omega (arith, o .1) in
-                  inl (m .leaderAndIsrRequests request .1 (o .0, l, o .2 ∙ old-is (o .0) l))
-            ]
+        | inr q ↦ (nextLeaderEpoch s, omega arith, q ∙ sym new-is)
+      ]),
+      (λ o. elim (ℕ-discrete (o .0) (nextLeaderEpoch s)) [
+        | yes q ↦ inr (o .2 ∙ ap (requestSent next) q ∙ new-is)
+        | no q ↦
+            let l : o .0 < nextLeaderEpoch s = omega (arith, o .1) in
+            inl (m .leaderAndIsrRequests request .1 (o .0, l, o .2 ∙ old-is (o .0) l))
+      ]),
+    )
 
     abbrev changed : ModelState
     changed =

@@ -6,6 +6,7 @@ use mathlib.Core.Bool.{Bool, true, false}
 use mathlib.Core.Option.{some}
 use mathlib.Core.Logic.{_↔_, inl, inr}
 use native.Mathlib.Omega.{arith}
+use Rattle.logic.specs.Tests.{refuted-iff}
 use Rattle.parts.specs.declared.Leader.{Leader}
 use Rattle.parts.specs.declared.Leader.the-variants.{None, Broker}
 use Rattle.parts.specs.Refusal.{accepted}
@@ -20,7 +21,7 @@ use Rattle.actions.specs.Sound.{Sound}
 use Rattle.published.specs.KafkaReplication.{Constants, ModelState, _isIn_, singleton, UnchangedNextRecordId, UnchangedReplicaLog, UnchangedReplicaState, ControllerUpdateIsr, ControllerShrinkIsrWith, ControllerElectLeaderWith}
 use Rattle.published.specs.Meaning.{constantsOf, leaderOf, meaning, Means}
 use Rattle.published.specs.Sets.{members-without, members-alone}
-use Rattle.published.specs.Reading.{leader-names-iff, refuted-iff, quorum-at}
+use Rattle.published.specs.Reading.{leader-names-iff, quorum-at}
 use Rattle.published.specs.Changes.{controller-iff}
 
 module _ (s : State) (d : Sound (s .limits) s) (u : ModelState) (m : Means (s .limits) u s) (v : ModelState) where
@@ -36,36 +37,33 @@ module _ (s : State) (d : Sound (s .limits) s) (u : ModelState) (m : Means (s .l
 
   updated-iff : (leader : Leader) (isr : ℕ) → Updated leader isr ↔ EpochLeft s × Means (s .limits) v (controllerUpdateIsr s leader isr)
   unfolding meaning
-  updated-iff leader isr = (to, from)
-    where
-      to : Updated leader isr → EpochLeft s × Means (s .limits) v (controllerUpdateIsr s leader isr)
-      to t =
-          let epoch : t .0 .0 ≡ nextLeaderEpoch s = t .0 .2 .0 ∙ m .nextLeaderEpoch in
-          let left : EpochLeft s = omega (arith, epoch, t .0 .1) in (
-            left,
-            controller-iff s d u m leader isr left v .0
-                (record {
-                  replicaLog = t .1 .1;
-                  replicaState = t .1 .2;
-                  nextRecordId = t .1 .0;
-                  nextLeaderEpoch = t .0 .2 .2;
-                  leaderAndIsrRequests = rw epoch at (t .0 .4);
-                  quorumState = rw epoch at (t .0 .3);
-                }),
-          )
-
-      from : EpochLeft s × Means (s .limits) v (controllerUpdateIsr s leader isr) → Updated leader isr
-      from t =
-          let n = controller-iff s d u m leader isr (t .0) v .1 (t .1) in (
-            (
-              nextLeaderEpoch s,
-              omega (arith, t .0),
-              (sym (m .nextLeaderEpoch), omega (arith, t .0), n .nextLeaderEpoch),
-              n .quorumState,
-              n .leaderAndIsrRequests,
-            ),
-            (n .nextRecordId, n .replicaLog, n .replicaState),
-          )
+  updated-iff leader isr = (
+    (λ t.
+        let epoch : t .0 .0 ≡ nextLeaderEpoch s = t .0 .2 .0 ∙ m .nextLeaderEpoch in
+        let left : EpochLeft s = omega (arith, epoch, t .0 .1) in (
+          left,
+          controller-iff s d u m leader isr left v .0
+              (record {
+                replicaLog = t .1 .1;
+                replicaState = t .1 .2;
+                nextRecordId = t .1 .0;
+                nextLeaderEpoch = t .0 .2 .2;
+                leaderAndIsrRequests = rw epoch at (t .0 .4);
+                quorumState = rw epoch at (t .0 .3);
+              }),
+        )),
+    (λ t.
+        let n = controller-iff s d u m leader isr (t .0) v .1 (t .1) in (
+          (
+            nextLeaderEpoch s,
+            omega (arith, t .0),
+            (sym (m .nextLeaderEpoch), omega (arith, t .0), n .nextLeaderEpoch),
+            n .quorumState,
+            n .leaderAndIsrRequests,
+          ),
+          (n .nextRecordId, n .replicaLog, n .replicaState),
+        )),
+  )
 
   -- ---- kind 0
   -- the engine accepts, and v is the meaning of its next state
@@ -109,7 +107,7 @@ module _ (s : State) (d : Sound (s .limits) s) (u : ModelState) (m : Means (s .l
     leads = leader-names-iff (s .quorum .leader) a
 
     alone : member (s .quorum .isr) ≡ singleton a ↔ isAlone (s .quorum .isr) a ≡ true
-    alone = (members-alone (s .quorum .isr) a .1, members-alone (s .quorum .isr) a .0)
+    alone = members-alone (s .quorum .isr) a
 
     -- the three cases of the source
     shrink-to : ControllerShrinkIsrWith k u v a → ShrinkStep a

@@ -11,6 +11,7 @@ use borrow.Author.Tests.{lt-ltb, ltb-true}
 use Rattle.logic.specs.Tests.{every-at, every-and, every-none, true-false}
 use Rattle.logic.specs.Refuse.{refuse-zero, refuse-none}
 use Rattle.parts.specs.Refusal.{accepted}
+use Rattle.parts.specs.IsrLaws.{member-within}
 use Rattle.cluster.specs.declared.Kind.{Kind}
 use Rattle.cluster.specs.declared.Kind.the-variants.{ControllerShrinkIsr, ControllerElectLeader, BecomeLeader, BecomeFollower, LeaderWrite, LeaderShrinkIsr, LeaderExpandIsr, LeaderIncHighWatermark, FollowerReplicate, Unknown}
 use Rattle.cluster.specs.declared.Action.{Action}
@@ -28,12 +29,15 @@ use Rattle.published.specs.KafkaReplication.{Constants, ModelState}
 use Rattle.published.specs.Meaning.{constantsOf, meaning, Means}
 use Rattle.published.specs.Equality.{same-model-refl}
 use Rattle.published.specs.Choices.{SourceActionWith, UnusedZero, Choice}
-use Rattle.published.specs.Types.{isr-below}
 use Rattle.published.specs.OneToOne.{means-tidy}
 use Rattle.published.specs.Controller.{controller-shrink-iff, elect-iff}
 use Rattle.published.specs.Requests.{become-leader-iff, become-follower-iff}
 use Rattle.published.specs.Logs.{write-iff, replicate-iff}
 use Rattle.published.specs.Leading.{leader-shrink-iff, leader-expand-iff, inc-iff}
+
+-- an operand that is not used has no bound
+unused : {A : Type 0} → false ≡ true → A
+unused q = absurd (true-false (sym q))
 
 -- ---- a kind with its operands, on a tidy state
 module _ (s : State) (d : Sound (s .limits) s) (u : ModelState) (m : Means (s .limits) u s) (v : ModelState) where
@@ -49,10 +53,6 @@ module _ (s : State) (d : Sound (s .limits) s) (u : ModelState) (m : Means (s .l
     none-refuses : tableRefusal kind s a b e ≡ accepted
     next : Means (s .limits) v (tableEffect kind s a b e)
 
-  -- an operand that is not used has no bound
-  unused : {A : Type 0} → false ≡ true → A
-  unused q = absurd (true-false (sym q))
-
   kind-iff : (kind : Kind) (a b e : ℕ) → SourceActionWith kind a b e k u v ↔ Accepts kind a b e
   unfolding uses tableRefusal tableEffect
   kind-iff ControllerShrinkIsr a b e = (
@@ -65,7 +65,7 @@ module _ (s : State) (d : Sound (s .limits) s) (u : ModelState) (m : Means (s .l
     (λ t.
         let n = elect-iff s d u m v a .0 t in
         let i = elect-accepted s a (d .rules .s1) .0 (n .0) .0 in
-        let l = isr-below (s .limits) (s .quorum .isr) (d .rules .s1 .ranges .replicas) (d .rules .s2 .quorum .within) a i in
+        let l = member-within R (s .quorum .isr) (d .rules .s1 .ranges .replicas) (d .rules .s2 .quorum .within) a i in
         record { operands = record { a-below = λ q. l; b-below = unused }; none-refuses = n .0; next = n .1 }),
     (λ t. elect-iff s d u m v a .1 (t .none-refuses, t .next)),
   )

@@ -7,9 +7,10 @@ use mathlib.Core.Logic.{_↔_, Iff·rfl}
 use native.Mathlib.Omega.{arith}
 use lib.Dec.{eqb}
 use borrow.Author.Tests.{lt-ltb, ltb-true, eqb-false, ne-eqb, not-true}
-use Rattle.logic.specs.Tests.{allBelow, all-at, all-by, and-left, and-right, and-true, implied, implies}
+use Rattle.logic.specs.Tests.{refuted-iff, allBelow, all-at, all-by, and-left, and-right, and-true, implied, implies}
 use Rattle.parts.specs.Refusal.{accepted}
 use Rattle.parts.specs.Isr.{member, without, including}
+use Rattle.parts.specs.IsrLaws.{member-within}
 use Rattle.replica.specs.declared.Replica.{Replica}
 use Rattle.replica.specs.Change.{withHw, withIsr}
 use Rattle.cluster.specs.declared.Quorum.{Quorum}
@@ -23,8 +24,7 @@ use Rattle.actions.specs.Sound.{Sound}
 use Rattle.published.specs.KafkaReplication.{Constants, _isIn_, Replicas, minus, plus, exceptHw, exceptIsr, LocalState, LeaderAndIsr, ModelState, ReplicaLog·Offsets, ReplicaLog·HasOffset, ReplicaIsFollowing, IsFollowerCaughtUp, UnchangedNextRecordId, UnchangedReplicaLog, UnchangedNextLeaderEpoch, UnchangedRequests, QuorumUpdateLeaderAndIsr, LeaderShrinkIsrWith, LeaderExpandIsrWith, LeaderIncHighWatermarkWith}
 use Rattle.published.specs.Meaning.{constantsOf, meaning, Means}
 use Rattle.published.specs.Sets.{members-without, members-including}
-use Rattle.published.specs.Types.{isr-below}
-use Rattle.published.specs.Reading.{refuted-iff, state-at, hw-at, log-at, quorum-at, following-iff, presumes-iff, true-leader-iff, caught-up-iff}
+use Rattle.published.specs.Reading.{state-at, hw-at, log-at, quorum-at, following-iff, presumes-iff, true-leader-iff, caught-up-iff}
 use Rattle.published.specs.Changes.{except-same, except-other, Becomes, put-iff, put-only-iff}
 
 module _ (s : State) (d : Sound (s .limits) s) (u : ModelState) (m : Means (s .limits) u s) (v : ModelState) (a : ℕ) (l : a < replicaCount (s .limits)) where
@@ -45,7 +45,7 @@ module _ (s : State) (d : Sound (s .limits) s) (u : ModelState) (m : Means (s .l
 
   -- a member of a's ISR is a replica
   member-below : (b : ℕ) → member (own .isr) b ≡ true → b < R
-  member-below = isr-below (s .limits) (own .isr) (d .rules .s1 .ranges .replicas) (d .rules .s2 .replicas a l .within)
+  member-below = member-within R (own .isr) (d .rules .s1 .ranges .replicas) (d .rules .s2 .replicas a l .within)
 
   -- ---- QuorumUpdateLeaderAndIsr, with all else unchanged
   abbrev Rest : Type 0

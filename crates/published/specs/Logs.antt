@@ -18,10 +18,10 @@ use Rattle.cluster.specs.Actions.{leaderWriteRefusal, nextRecord, leaderWrite, 
 use Rattle.cluster.specs.Accepted.{write-accepted, replicate-accepted}
 use Rattle.actions.specs.Tidy.{tidy-replica-iff}
 use Rattle.actions.specs.Sound.{Sound}
-use Rattle.published.specs.KafkaReplication.{Constants, _isIn_, Replicas, except, exceptHw, LogRecord, Log, LocalState, ModelState, SameLog, followerHw, RecordSeq·IdSet, ReplicaLog·Offsets, LeaderWriteWith, FollowerReplicateWith}
+use Rattle.published.specs.KafkaReplication.{Constants, _isIn_, Replicas, except, exceptHw, LogRecord, Log, LocalState, ModelState, SameLog, SameModelState, followerHw, RecordSeq·IdSet, ReplicaLog·Offsets, LeaderWriteWith, FollowerReplicateWith}
 use Rattle.published.specs.Meaning.{constantsOf, recordOf, logOf, localStateOf, meaning, Means}
 use Rattle.published.specs.Reading.{state-at, log-at, following-iff, presumes-iff}
-use Rattle.published.specs.Changes.{except-same, except-other, Becomes, put-iff, put-only-iff}
+use Rattle.published.specs.Changes.{except-same, except-other, withChanges, Becomes, put-iff, put-only-iff}
 
 -- a log with a record more at its end
 abbrev appended : Log → ℕ → LogRecord → Log
@@ -82,9 +82,19 @@ module _ (s : State) (d : Sound (s .limits) s) (u : ModelState) (m : Means (s .l
           other-states = λ r n. refl;
         }
 
+    -- so the next state is known by what changes
+    written-iff : (id offset : ℕ) → id ≡ nextRecordId s → offset ≡ own .end → own .end < logSize (s .limits)
+        → SameModelState k v (withChanges u (logs-with (written id) offset) (u .replicaState) (u .nextRecordId + 1) (u .quorumState))
+        ↔ Means (s .limits) v (leaderWrite s a)
+    unfolding leaderWrite withNextRecordId withReplica meaning
+    written-iff id offset q o room =
+        put-iff s d u m a (append own (nextRecord s a)) (logs-with (written id) offset) (u .replicaState)
+        (u .nextRecordId + 1) (nextRecordId s + 1) (u .quorumState) (s .quorum) (ap (λ n. n + 1) (m .nextRecordId)) (m .quorumState)
+        (writes id offset q o room) v
+
     write-to : (id offset : ℕ) → LeaderWriteWith k u v a id offset
         → (leaderWriteRefusal s a ≡ accepted) × Means (s .limits) v (leaderWrite s a)
-    unfolding leaderWrite withNextRecordId withReplica meaning
+    unfolding meaning
     write-to id offset t =
         let q : id ≡ nextRecordId s = t .1 .0 ∙ m .nextRecordId in
         let o : offset ≡ own .end = t .2 .1 ∙ log-at s u m a l .end in
@@ -95,9 +105,7 @@ module _ (s : State) (d : Sound (s .limits) s) (u : ModelState) (m : Means (s .l
                 id = omega (arith, q, t .1 .1, d .rules .s1 .ranges .records-low);
                 room = room;
               }),
-          put-iff s d u m a (append own (nextRecord s a)) (logs-with (written id) offset) (u .replicaState)
-              (u .nextRecordId + 1) (nextRecordId s + 1) (u .quorumState) (s .quorum) (ap (λ n. n + 1) (m .nextRecordId)) (m .quorumState)
-              (writes id offset q o room) v .0
+          written-iff id offset q o room .0
               (record {
                 replicaLog = t .2 .2;
                 replicaState = t .3;
@@ -110,13 +118,10 @@ module _ (s : State) (d : Sound (s .limits) s) (u : ModelState) (m : Means (s .l
 
     write-from : leaderWriteRefusal s a ≡ accepted → Means (s .limits) v (leaderWrite s a)
         → RecordSeq·IdSet k (nextRecordId s) × ReplicaLog·Offsets k (own .end) × LeaderWriteWith k u v a (nextRecordId s) (own .end)
-    unfolding leaderWrite withNextRecordId withReplica meaning
+    unfolding meaning
     write-from h t =
         let f = write-accepted s a .0 h in
-        let n =
-        put-iff s d u m a (append own (nextRecord s a)) (logs-with (written (nextRecordId s)) (own .end)) (u .replicaState)
-        (u .nextRecordId + 1) (nextRecordId s + 1) (u .quorumState) (s .quorum) (ap (λ n. n + 1) (m .nextRecordId)) (m .quorumState)
-        (writes (nextRecordId s) (own .end) refl refl (f .room)) v .1 t in (
+        let n = written-iff (nextRecordId s) (own .end) refl refl (f .room) .1 t in (
           omega (arith, f .id),
           f .room,
           (

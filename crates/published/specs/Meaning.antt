@@ -11,6 +11,8 @@ use Rattle.replica.specs.declared.Record.{Record}
 use Rattle.replica.specs.declared.Replica.{Replica}
 use Rattle.replica.specs.Replica.{recordAt}
 use Rattle.cluster.specs.declared.Limits.{Limits}
+use Rattle.cluster.specs.declared.Quorum.{Quorum}
+use Rattle.cluster.specs.declared.Request.{Request}
 use Rattle.cluster.specs.declared.State.{State}
 use Rattle.cluster.specs.State.{replicaCount, logSize, maxRecords, maxLeaderEpoch, nextLeaderEpoch, nextRecordId, requestAt, replicaAt}
 use Rattle.published.specs.KafkaReplication.{Constants, LogRecord, Log, LeaderAndIsr, LocalState, ModelState, SameModelState}
@@ -40,9 +42,15 @@ localStateOf p = record { hw = p .hw; leaderEpoch = p .epoch; leader = leaderOf 
 abbrev pub leaderAndIsrOf : ℤ → Leader → ℕ → LeaderAndIsr
 leaderAndIsrOf epoch leader isr = record { leaderEpoch = epoch; leader = leaderOf leader; isr = member isr }
 
+abbrev pub quorumOf : Quorum → LeaderAndIsr
+quorumOf q = leaderAndIsrOf (q .epoch) (q .leader) (q .isr)
+
+abbrev pub requestOf : ℕ → Request → LeaderAndIsr
+requestOf e q = leaderAndIsrOf (pos e) (q .leader) (q .isr)
+
 -- the request of epoch e
-abbrev pub requestOf : State → ℕ → LeaderAndIsr
-requestOf s e = leaderAndIsrOf (pos e) (requestAt s e .leader) (requestAt s e .isr)
+abbrev pub requestSent : State → ℕ → LeaderAndIsr
+requestSent s e = requestOf e (requestAt s e)
 
 -- the meaning of a state; its requests are those of the epochs used
 unfoldable pub meaning : State → ModelState
@@ -52,8 +60,8 @@ meaning s =
       replicaState = λ replica. localStateOf (replicaAt s replica);
       nextRecordId = nextRecordId s;
       nextLeaderEpoch = nextLeaderEpoch s;
-      leaderAndIsrRequests = λ request. (e : ℕ) × (e < nextLeaderEpoch s) × (request ≡ requestOf s e);
-      quorumState = leaderAndIsrOf (s .quorum .epoch) (s .quorum .leader) (s .quorum .isr);
+      leaderAndIsrRequests = λ request. (e : ℕ) × (e < nextLeaderEpoch s) × (request ≡ requestSent s e);
+      quorumState = quorumOf (s .quorum);
     }
 
 -- the model's state u is the meaning of s, in a model with the constants of c

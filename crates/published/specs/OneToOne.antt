@@ -25,7 +25,7 @@ use Rattle.cluster.specs.Equality.{same-sym, tidy-same}
 use Rattle.cluster.specs.Unused.{rules-same}
 use Rattle.cluster.specs.ActLaws.{replica-five, end-small, isr-small, quorum-isr-small, request-small}
 use Rattle.published.specs.KafkaReplication.{Constants, LeaderAndIsr, LocalState, ModelState, SameLog, SameModelState}
-use Rattle.published.specs.Meaning.{constantsOf, leaderOf, recordOf, logOf, localStateOf, leaderAndIsrOf, requestOf, meaning, Means}
+use Rattle.published.specs.Meaning.{constantsOf, leaderOf, recordOf, logOf, localStateOf, leaderAndIsrOf, quorumOf, requestOf, requestSent, meaning, Means}
 use Rattle.published.specs.Equality.{same-model-sym, same-model-trans}
 use Rattle.published.specs.Sets.{members-injective}
 
@@ -39,7 +39,7 @@ module _ (s t : State) (h : rules s ≡ true) (m : Same s t) where
   request-over request q =
       let e = q .0 in
       let l = q .1 in
-      (e, rw (m .nextEpoch) at l, q .2 ∙ ap (λ (v : Request). leaderAndIsrOf (pos e) (v .leader) (v .isr)) (m .requests e (request-small s h e l) l))
+      (e, rw (m .nextEpoch) at l, q .2 ∙ ap (requestOf e) (m .requests e (request-small s h e l) l))
 
   same-at : (r : ℕ) → r < replicaCount (s .limits) → SameReplica (replicaAt s r) (replicaAt t r)
   same-at r l = m .replicas r (replica-five s h r l) l
@@ -63,7 +63,7 @@ same-means s t h m =
         request-over s t h m request,
         request-over t s (sym (rules-same s t m) ∙ h) (same-sym s t m) request,
       );
-      quorumState = ap (λ (q : Quorum). leaderAndIsrOf (q .epoch) (q .leader) (q .isr)) (m .quorum);
+      quorumState = ap quorumOf (m .quorum);
     }
 
 -- ---- states that mean the same are equal
@@ -123,7 +123,7 @@ module _ (s t : State) (h : rules s ≡ true) (k : rules t ≡ true)
   same-request : (e : ℕ) → e < nextLeaderEpoch s → requestAt s e ≡ requestAt t e
   unfolding meaning
   same-request e l =
-      let other = m .leaderAndIsrRequests (requestOf s e) .0 (e, l, refl) in
+      let other = m .leaderAndIsrRequests (requestSent s e) .0 (e, l, refl) in
       let f = other .0 in
       let q = requestAt s e in
       let p = requestAt t f in

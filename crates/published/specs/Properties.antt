@@ -6,10 +6,12 @@ use mathlib.Core.Bool.{Bool, true, false}
 use mathlib.Core.Logic.{_↔_, _⊎_, inl, inr, Iff·trans}
 use native.Mathlib.Omega.{arith}
 use borrow.Author.Tests.{lt-ltb, ltb-true}
+use Rattle.logic.specs.Tests.{refuted-iff}
 use Rattle.parts.specs.declared.Leader.the-variants.{Broker}
 use Rattle.parts.specs.Isr.{member}
 use Rattle.parts.specs.Leader.{names}
 use Rattle.parts.specs.LeaderLaws.{names-iff}
+use Rattle.parts.specs.IsrLaws.{member-within}
 use Rattle.replica.specs.Replica.{recordAt}
 use Rattle.cluster.specs.declared.State.{State}
 use Rattle.cluster.specs.State.{replicaCount, replicaAt}
@@ -19,9 +21,9 @@ use Rattle.questions.specs.Isr.{weakIsr, strongIsr}
 use Rattle.questions.specs.IsrTheorems.{HoldSameRecord, weak-holds, strong-holds}
 use Rattle.published.specs.KafkaReplication.{_isIn_, Replicas, ReplicaPresumesLeadership, HaveOneEntry, WeakIsr, StrongIsr}
 use Rattle.published.specs.Meaning.{constantsOf, leaderOf, recordOf, meaning}
-use Rattle.published.specs.Types.{isr-below, log-record-ok}
+use Rattle.published.specs.Types.{log-record-ok}
 use Rattle.published.specs.OneToOne.{record-of-injective}
-use Rattle.published.specs.Reading.{leader-names-iff, refuted-iff}
+use Rattle.published.specs.Reading.{leader-names-iff}
 
 -- ---- r and m hold the same record exactly where they have one entry, and it is one of LogRecords
 entry-of : (s : State) → rules s ≡ true → (r m offset : ℕ)
@@ -74,7 +76,7 @@ module _ (s : State) (isr : ℕ → ℕ) where
       answered-by r l (inr (inl z)) m offset e i o = absurd (omega arith)
       answered-by r l (inr (inr f)) m offset e i o =
           let five = rules-iff s .0 h .s1 .ranges .replicas in
-          let k = isr-below (s .limits) (isr r) five (within r l) m i in
+          let k = member-within (replicaCount (s .limits)) (isr r) five (within r l) m i in
           same-of s r m offset l k (f m offset i o)
 
       property-iff : ((r m offset : ℕ) → r < replicaCount (s .limits) → replicaAt s r .leader ≡ Broker r → member (isr r) m ≡ true

@@ -22,7 +22,7 @@ use Rattle.cluster.specs.Rules.{rules}
 use Rattle.cluster.specs.State.{replicaCount, replicaAt}
 use Rattle.cluster.specs.Actions.{replicaPresumesLeadership, replicaIsFollowing, isTrueLeaderTests, isTrueLeader, isFollowerCaughtUp, epochNotAbove}
 use Rattle.published.specs.KafkaReplication.{Constants, LocalState, ModelState, SameLog, LogRecords, ReplicaPresumesLeadership, ReplicaIsFollowing, IsTrueLeader, IsFollowerCaughtUp}
-use Rattle.published.specs.Meaning.{constantsOf, leaderOf, logOf, localStateOf, leaderAndIsrOf, meaning, Means}
+use Rattle.published.specs.Meaning.{constantsOf, leaderOf, logOf, localStateOf, quorumOf, meaning, Means}
 use Rattle.published.specs.Types.{log-record-ok}
 use Rattle.published.specs.OneToOne.{leader-of-injective}
 
@@ -31,11 +31,6 @@ pub leader-names-iff : (l : Leader) (b : ℕ) → leaderOf l ≡ some b ↔ name
 leader-names-iff l b =
     let n = names-iff l b in
     ((λ e. n .1 (leader-of-injective l (Broker b) e)), (λ e. ap leaderOf (n .0 e)))
-
--- what a test decides does not hold exactly where the test is false
-pub refuted-iff : {A : Type 0} (b : Bool) → A ↔ b ≡ true → (¬ A) ↔ b ≡ false
-refuted-iff true h = ((λ n. absurd (n (h .1 refl))), (λ e. absurd (true-false e)))
-refuted-iff false h = ((λ n. refl), (λ e a. true-false (sym (h .0 a))))
 
 true-T : (b : Bool) → T b ↔ b ≡ true
 true-T true = ((λ t. refl), (λ e. tt))
@@ -60,7 +55,7 @@ module _ (s : State) (u : ModelState) (m : Means (s .limits) u s) where
   unfolding meaning
   log-at r l = m .replicaLog r (lt-ltb r R l)
 
-  pub quorum-at : u .quorumState ≡ leaderAndIsrOf (s .quorum .epoch) (s .quorum .leader) (s .quorum .isr)
+  pub quorum-at : u .quorumState ≡ quorumOf (s .quorum)
   unfolding meaning
   quorum-at = m .quorumState
 

@@ -8,6 +8,7 @@ use mathlib.Core.Logic.{_↔_, _≢_, _⊎_, inl, inr, Iff·rfl}
 use native.Mathlib.Omega.{arith}
 use lib.IntN.{pos}
 use borrow.Author.Tests.{lt-ltb, ltb-true}
+use Rattle.logic.specs.Tests.{refuted-iff}
 use Rattle.logic.specs.Refuse.{refuse-zero, refuse-none}
 use Rattle.parts.specs.declared.Leader.{Leader}
 use Rattle.parts.specs.declared.Leader.the-variants.{None, Broker}
@@ -26,9 +27,9 @@ use Rattle.cluster.specs.Actions.{leaderRefusal, becomeLeaderRefusal, leadBy, b
 use Rattle.cluster.specs.Accepted.{become-leader-accepted, become-follower-accepted}
 use Rattle.actions.specs.Sound.{Sound}
 use Rattle.published.specs.KafkaReplication.{Constants, _isIn_, Replicas, ReplicaOpt, except, Log, LocalState, LeaderAndIsr, ModelState, SameLog, SameLogs, ReplicaLog·TruncateTo, Min, UnchangedReplicaLog, BecomeLeaderWith, BecomeFollowerAndTruncateToWith}
-use Rattle.published.specs.Meaning.{constantsOf, leaderOf, recordOf, logOf, requestOf, meaning, Means}
-use Rattle.published.specs.Types.{leader-opt}
-use Rattle.published.specs.Reading.{leader-names-iff, refuted-iff, state-at, hw-at, log-at, epoch-above-iff}
+use Rattle.published.specs.Meaning.{constantsOf, leaderOf, recordOf, logOf, requestSent, meaning, Means}
+use Rattle.published.specs.Types.{leader-opt-iff}
+use Rattle.published.specs.Reading.{leader-names-iff, state-at, hw-at, log-at, epoch-above-iff}
 use Rattle.published.specs.Changes.{except-same, except-other, Becomes, put-only-iff}
 
 module _ (s : State) (d : Sound (s .limits) s) (u : ModelState) (m : Means (s .limits) u s) (v : ModelState) where
@@ -41,7 +42,7 @@ module _ (s : State) (d : Sound (s .limits) s) (u : ModelState) (m : Means (s .l
   -- ---- the request of epoch e
   record Sent (request : LeaderAndIsr) (e : ℕ) : Type 0 where
     used : e < nextLeaderEpoch s
-    is : request ≡ requestOf s e
+    is : request ≡ requestSent s e
 
   -- a request of the model with this epoch is that of s
   sent-of : (request : LeaderAndIsr) (e : ℕ) → u .leaderAndIsrRequests request → request .leaderEpoch ≡ pos e → Sent request e
@@ -49,12 +50,12 @@ module _ (s : State) (d : Sound (s .limits) s) (u : ModelState) (m : Means (s .l
   sent-of request e h q =
       let o = m .leaderAndIsrRequests request .0 h in
       let i : o .0 ≡ e = pos-injective (o .0) e (sym (ap (λ (r : LeaderAndIsr). r .leaderEpoch) (o .2)) ∙ q) in
-      record { used = rw i at (o .1); is = o .2 ∙ ap (requestOf s) i }
+      record { used = rw i at (o .1); is = o .2 ∙ ap (requestSent s) i }
 
   -- and that of s is one of the model
-  sent-in : (e : ℕ) → e < nextLeaderEpoch s → u .leaderAndIsrRequests (requestOf s e)
+  sent-in : (e : ℕ) → e < nextLeaderEpoch s → u .leaderAndIsrRequests (requestSent s e)
   unfolding meaning
-  sent-in e l = m .leaderAndIsrRequests (requestOf s e) .1 (e, l, refl)
+  sent-in e l = m .leaderAndIsrRequests (requestSent s e) .1 (e, l, refl)
 
   -- ---- kind 2
   -- the local state that a leader takes from request e
@@ -65,7 +66,7 @@ module _ (s : State) (d : Sound (s .limits) s) (u : ModelState) (m : Means (s .l
   leader-after b e = withRequest (replicaAt s b) (pos e) (Broker b) (requestAt s e .isr)
 
   abbrev states-led : ℕ → ℕ → ℕ → LocalState
-  states-led b e = except (u .replicaState) b (led b (requestOf s e) (u .replicaState b))
+  states-led b e = except (u .replicaState) b (led b (requestSent s e) (u .replicaState b))
 
   leads : (b e : ℕ) → b < R → Becomes u b (leader-after b e) (u .replicaLog) (states-led b e)
   unfolding withRequest
@@ -73,13 +74,13 @@ module _ (s : State) (d : Sound (s .limits) s) (u : ModelState) (m : Means (s .l
       record {
         own-log = log-at s u m b l;
         other-logs = λ r n. refl;
-        own-state = except-same (u .replicaState) b _ ∙ ap (led b (requestOf s e)) (state-at s u m b l);
+        own-state = except-same (u .replicaState) b _ ∙ ap (led b (requestSent s e)) (state-at s u m b l);
         other-states = except-other (u .replicaState) b _;
       }
 
   -- the leader that request e names becomes leader, by that leader
   lead-iff : (e : ℕ) → e < nextLeaderEpoch s → (leader : Leader) → requestAt s e .leader ≡ leader
-      → BecomeLeaderWith k u v (requestOf s e) ↔ (leaderRefusal s e leader ≡ accepted) × Means (s .limits) v (leadBy s e leader)
+      → BecomeLeaderWith k u v (requestSent s e) ↔ (leaderRefusal s e leader ≡ accepted) × Means (s .limits) v (leadBy s e leader)
   unfolding leaderRefusal leadBy
   lead-iff e l None q = (
     (λ t. absurd (Option·none-ne-some (t .0) (sym (ap leaderOf q) ∙ t .1))),
@@ -130,7 +131,7 @@ module _ (s : State) (d : Sound (s .limits) s) (u : ModelState) (m : Means (s .l
         (become-leader-accepted s e .1 (h .used, n .0), n .1)),
     (λ t.
         let f = become-leader-accepted s e .0 (t .0) in
-        (requestOf s e, sent-in e (f .0), refl, lead-iff e (f .0) (requestAt s e .leader) refl .1 (f .1, t .1))),
+        (requestSent s e, sent-in e (f .0), refl, lead-iff e (f .0) (requestAt s e .leader) refl .1 (f .1, t .1))),
   )
 
   -- ---- kind 3, with any truncation offset
@@ -228,7 +229,7 @@ module _ (s : State) (d : Sound (s .limits) s) (u : ModelState) (m : Means (s .l
         × Fits (requestAt s e .leader)
         × Means (s .limits) v (becomeFollower s a e truncationOffset)
 
-    pub follow-iff : BecomeFollowerAndTruncateToWith k u v (leaderOf (requestAt s e .leader)) a truncationOffset (requestOf s e) ↔ FollowStep
+    pub follow-iff : BecomeFollowerAndTruncateToWith k u v (leaderOf (requestAt s e .leader)) a truncationOffset (requestSent s e) ↔ FollowStep
     unfolding becomeFollower
     follow-iff =
         let above = epoch-above-iff s u m a e l in
@@ -292,9 +293,9 @@ module _ (s : State) (d : Sound (s .limits) s) (u : ModelState) (m : Means (s .l
     (λ t.
         let used = become-follower-accepted s a e .0 (t .1) .0 in (
           leaderOf (requestAt s e .leader),
-          leader-opt (s .limits) (requestAt s e .leader) (d .rules .s2 .requests e used .below),
+          leader-opt-iff (s .limits) (requestAt s e .leader) .1 (d .rules .s2 .requests e used .below),
           lt-ltb a R (t .0),
-          requestOf s e,
+          requestSent s e,
           sent-in e used,
           refl,
           hw-offset a _ _ (t .0) .1

@@ -51,18 +51,18 @@ members-including isr a l =
     (λ i h. ap (λ b. b || eqb i a) (member-past isr i h) ∙ ne-eqb i a (omega arith))
 
 -- ---- a single member
-pub members-alone : (isr a : ℕ) → isAlone isr a ≡ true ↔ member isr ≡ singleton a
+pub members-alone : (isr a : ℕ) → member isr ≡ singleton a ↔ isAlone isr a ≡ true
 unfolding isAlone noOther
 members-alone isr a = (
+  (λ e.
+      and-true (ap (λ set. set a) e ∙ eq-eqb a a refl)
+      (all-by 5 other (λ i l. implies (member isr i) (eqb i a) (λ m. sym (ap (λ set. set i) e) ∙ m)))),
   (λ h.
       fun-ext
       (λ i.
       bool-ext (member isr i) (eqb i a)
       (λ m. implied (member isr i) (eqb i a) (all-at 5 other (and-right (member isr a) (noOther isr a) h) i (member-below isr i m)) m)
       (λ e. ap (member isr) (eqb-true i a e) ∙ and-left (member isr a) (noOther isr a) h))),
-  (λ e.
-      and-true (ap (λ set. set a) e ∙ eq-eqb a a refl)
-      (all-by 5 other (λ i l. implies (member isr i) (eqb i a) (λ m. sym (ap (λ set. set i) e) ∙ m)))),
 )
   where
     other : ℕ → Bool

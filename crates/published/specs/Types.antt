@@ -1,5 +1,5 @@
 -- What TypeOk says of the meaning of a state, in the words of the state rules, and that S1 to S7 give it. Assumes nothing.
-use Prim.Native.Nat.{ℕ, zero, suc, _+_, _^_, _≤_, _<_}
+use Prim.Native.Nat.{ℕ, _+_, _≤_, _<_}
 use mathlib.Core.Path.{_≡_, refl, sym, _∙_, ap, subst}
 use mathlib.Core.Bool.{true}
 use mathlib.Core.Option.{Option·none-ne-some, Option·some-injective}
@@ -11,9 +11,9 @@ use borrow.Author.Tests.{lt-ltb, ltb-true}
 use Rattle.parts.specs.declared.Leader.{Leader}
 use Rattle.parts.specs.declared.Leader.the-variants.{None, Broker}
 use Rattle.parts.specs.Isr.{member}
-use Rattle.parts.specs.IsrLaws.{within-iff, below-32}
-use Rattle.parts.specs.Epoch.{lastEpoch}
-use Rattle.parts.specs.EpochLaws.{pos-injective, negsuc-injective, pos-negsuc}
+use Rattle.parts.specs.IsrLaws.{member-within}
+use Rattle.parts.specs.EpochLaws.{pos-injective, negsuc-injective, pos-negsuc, last-used, last-low}
+use Rattle.parts.specs.LeaderLaws.{none-broker, broker-injective}
 use Rattle.replica.specs.declared.Record.{Record}
 use Rattle.replica.specs.declared.Replica.{Replica}
 use Rattle.replica.specs.Replica.{recordAt}
@@ -24,54 +24,60 @@ use Rattle.cluster.specs.State.{replicaCount, logSize, maxRecords, maxLeaderEpo
 use Rattle.cluster.specs.Rules.{rules}
 use Rattle.cluster.specs.Predicates.{Named, Has, Rules, rules-iff}
 use Rattle.published.specs.KafkaReplication.{Constants, Log, ModelState, SameLog, SameModelState, LogType, LogRecords, LeaderEpochSeq·IdSet, LeaderEpochOpt, ReplicaOpt, QuorumState, ReplicaState, TypeOk}
-use Rattle.published.specs.Meaning.{constantsOf, leaderOf, recordOf, localStateOf, leaderAndIsrOf, requestOf, meaning}
+use Rattle.published.specs.Meaning.{constantsOf, leaderOf, recordOf, localStateOf, leaderAndIsrOf, requestSent, meaning}
 
--- ---- ISRs, leaders, epochs and records, each way
--- the members of an ISR within the replicas are replicas
-pub isr-below : (c : Limits) (isr : ℕ) → replicaCount c ≤ 5 → isr < 2 ^ replicaCount c → (r : ℕ) → member isr r ≡ true → r < replicaCount c
-isr-below c isr five l = within-iff _ _ five (below-32 _ _ five l) .0 l
-
+-- ---- leaders, epochs and records, each way
 module _ (c : Limits) where
   abbrev k : Constants
   k = constantsOf c
 
-  -- a leader is a replica where it is below R, and None where there is none
-  pub leader-opt : (leader : Leader) → ((b : ℕ) → leader ≡ Broker b → b < replicaCount c) → ReplicaOpt k (leaderOf leader)
-  leader-opt None f = inl refl
-  leader-opt (Broker b) f = inr (b, refl, lt-ltb b (replicaCount c) (f b refl))
+  -- a leader is None, or a replica, exactly where it is none or below R
+  pub leader-opt-iff : (leader : Leader) → ReplicaOpt k (leaderOf leader) ↔ ((b : ℕ) → leader ≡ Broker b → b < replicaCount c)
+  leader-opt-iff None = ((λ t b q. absurd (none-broker b q)), (λ f. inl refl))
+  leader-opt-iff (Broker a) = (
+    (λ t b q. elim t [
+      | inl n ↦ absurd (Option·none-ne-some a (sym n))
+      | inr o ↦
+          let l : o .0 < replicaCount c = ltb-true (o .0) (replicaCount c) (o .2) in
+          omega (arith, l, Option·some-injective a (o .0) (o .1), broker-injective a b q)
+    ]),
+    (λ f. inr (a, refl, lt-ltb a (replicaCount c) (f a refl))),
+  )
 
-  leader-opt-says : (leader : Leader) → ReplicaOpt k (leaderOf leader) → (b : ℕ) → leader ≡ Broker b → b < replicaCount c
-  leader-opt-says leader (inl n) b q = absurd (Option·none-ne-some b (sym n ∙ ap leaderOf q))
-  leader-opt-says leader (inr o) b q =
-      let i : o .0 ≡ b = Option·some-injective (o .0) b (sym (o .1) ∙ ap leaderOf q) in
-      rw i at (ltb-true (o .0) (replicaCount c) (o .2))
+  -- an epoch is of IdSet exactly where it is from 0 to X
+  epoch-id-iff : (epoch : ℤ) → ((e : ℕ) × (epoch ≡ pos e) × LeaderEpochSeq·IdSet k e)
+      ↔ ((e : ℕ) → epoch ≡ pos e → e < maxLeaderEpoch c + 1) × ((n : ℕ) → epoch ≡ negsuc n → ⊥)
+  epoch-id-iff (pos a) = (
+    (λ t. ((λ e q. omega (arith, t .2, pos-injective a (t .0) (t .1), pos-injective a e q)), (λ n q. pos-negsuc a n q))),
+    (λ f. (a, refl, (let l = f .0 a refl in omega (arith, l)))),
+  )
+  epoch-id-iff (negsuc n) = ((λ t. absurd (pos-negsuc (t .0) n (sym (t .1)))), (λ f. absurd (f .1 n refl)))
 
-  epoch-opt : (epoch : ℤ) → ((e : ℕ) → epoch ≡ pos e → e < maxLeaderEpoch c + 1) → ((n : ℕ) → epoch ≡ negsuc n → n ≡ 0) → LeaderEpochOpt k epoch
-  epoch-opt (pos e) used low = inr (e, refl, (let l = used e refl in omega (arith, l)))
-  epoch-opt (negsuc n) used low = inl (ap negsuc (low n refl))
+  -- it is Nil or of IdSet exactly where it is from -1 to X
+  epoch-opt-iff : (epoch : ℤ)
+      → LeaderEpochOpt k epoch ↔ ((e : ℕ) → epoch ≡ pos e → e < maxLeaderEpoch c + 1) × ((n : ℕ) → epoch ≡ negsuc n → n ≡ 0)
+  epoch-opt-iff (pos a) = (
+    (λ t. elim t [
+      | inl z ↦ absurd (pos-negsuc a 0 z)
+      | inr o ↦ (epoch-id-iff (pos a) .0 o .0, (λ n q. absurd (pos-negsuc a n q)))
+    ]),
+    (λ f. inr (epoch-id-iff (pos a) .1 (f .0, λ n q. pos-negsuc a n q))),
+  )
+  epoch-opt-iff (negsuc a) = (
+    (λ t. elim t [
+      | inl z ↦ ((λ e q. absurd (pos-negsuc e a (sym q))), (λ n q. negsuc-injective n 0 (sym q ∙ z)))
+      | inr o ↦ absurd (pos-negsuc (o .0) a (sym (o .1)))
+    ]),
+    (λ f. inl (ap negsuc (f .1 a refl))),
+  )
 
-  epoch-used : (epoch : ℤ) → LeaderEpochOpt k epoch → (e : ℕ) → epoch ≡ pos e → e < maxLeaderEpoch c + 1
-  epoch-used epoch (inl n) e q = absurd (pos-negsuc e 0 (sym q ∙ n))
-  epoch-used epoch (inr o) e q = omega (arith, o .2, pos-injective (o .0) e (sym (o .1) ∙ q))
-
-  epoch-low : (epoch : ℤ) → LeaderEpochOpt k epoch → (n : ℕ) → epoch ≡ negsuc n → n ≡ 0
-  epoch-low epoch (inl z) n q = negsuc-injective n 0 (sym q ∙ z)
-  epoch-low epoch (inr o) n q = absurd (pos-negsuc (o .0) n (sym (o .1) ∙ q))
-
-  record-epoch : (epoch : ℤ) → ((e : ℕ) → epoch ≡ pos e → e < maxLeaderEpoch c + 1) → ((n : ℕ) → epoch ≡ negsuc n → ⊥)
-      → (e : ℕ) × (epoch ≡ pos e) × LeaderEpochSeq·IdSet k e
-  record-epoch (pos e) used signed = (e, refl, (let l = used e refl in omega (arith, l)))
-  record-epoch (negsuc n) used signed = absurd (signed n refl)
-
-  -- a record of LogRecords: its id is below M and its epoch from 0 to X
+  -- a record is of LogRecords exactly where its id is below M and its epoch from 0 to X
   record-iff : (r : Record) → 1 ≤ maxRecords c → LogRecords k (recordOf r) ↔ InUse (maxRecords c) (maxLeaderEpoch c + 1) r
   record-iff r some-id = (
-    (λ t. record {
-      id = omega (arith, t .id, some-id);
-      epoch = λ e q. omega (arith, t .epoch .2, pos-injective (t .epoch .0) e (sym (t .epoch .1) ∙ q));
-      signed = λ n q. pos-negsuc (t .epoch .0) n (sym (t .epoch .1) ∙ q);
-    }),
-    (λ t. record { id = omega (arith, t .id); epoch = record-epoch (r .epoch) (t .epoch) (t .signed) }),
+    (λ t.
+        let e = epoch-id-iff (r .epoch) .0 (t .epoch) in
+        record { id = omega (arith, t .id, some-id); epoch = e .0; signed = e .1 }),
+    (λ t. record { id = omega (arith, t .id); epoch = epoch-id-iff (r .epoch) .1 (t .epoch, t .signed) }),
   )
 
   -- ---- an epoch, a leader and an ISR: the epoch is from -1 to X, the leader none or below R, each member below R
@@ -83,15 +89,17 @@ module _ (c : Limits) where
 
   quorum-iff : (epoch : ℤ) (leader : Leader) (isr : ℕ) → QuorumState k (leaderAndIsrOf epoch leader isr) ↔ Ranged epoch leader isr
   quorum-iff epoch leader isr = (
+    (λ t.
+        let e = epoch-opt-iff epoch .0 (t .leaderEpoch) in
+        record {
+          used = e .0;
+          low = e .1;
+          below = leader-opt-iff leader .0 (t .leader);
+          members = λ r i. ltb-true r (replicaCount c) (t .isr r i);
+        }),
     (λ t. record {
-      used = epoch-used epoch (t .leaderEpoch);
-      low = epoch-low epoch (t .leaderEpoch);
-      below = leader-opt-says leader (t .leader);
-      members = λ r i. ltb-true r (replicaCount c) (t .isr r i);
-    }),
-    (λ t. record {
-      leaderEpoch = epoch-opt epoch (t .used) (t .low);
-      leader = leader-opt leader (t .below);
+      leaderEpoch = epoch-opt-iff epoch .1 (t .used, t .low);
+      leader = leader-opt-iff leader .1 (t .below);
       isr = λ r i. lt-ltb r (replicaCount c) (t .members r i);
     }),
   )
@@ -114,7 +122,7 @@ module _ (c : Limits) where
 
 -- ---- what TypeOk says of a state: S1 and S2 but for the ranges of R, L, M and X; epochs at most X; hw at most L; ids of records
 -- below M, epochs of records from 0 to X
-pub record TypesOnly (s : State) : Type 0 where
+pub record TypeOkSays (s : State) : Type 0 where
   pub epochs : nextLeaderEpoch s ≤ maxLeaderEpoch (s .limits) + 1
   pub ids : nextRecordId s ≤ maxRecords (s .limits)
   pub ends : (i : ℕ) → i < replicaCount (s .limits) → replicaAt s i .end ≤ logSize (s .limits)
@@ -131,7 +139,7 @@ module _ (s : State) where
   abbrev R : ℕ
   R = replicaCount (s .limits)
 
-  pub type-ok-iff : 1 ≤ maxRecords (s .limits) → TypeOk (constantsOf (s .limits)) (meaning s) ↔ TypesOnly s
+  pub type-ok-iff : 1 ≤ maxRecords (s .limits) → TypeOk (constantsOf (s .limits)) (meaning s) ↔ TypeOkSays s
   unfolding meaning
   type-ok-iff some-id = (
     (λ t. record {
@@ -142,7 +150,7 @@ module _ (s : State) where
       hws = λ i l. replica-iff c (replicaAt s i) .0 (t .replicaState i (lt-ltb i R l)) .0;
       replicas = λ i l. replica-iff c (replicaAt s i) .0 (t .replicaState i (lt-ltb i R l)) .1;
       quorum = quorum-iff c (s .quorum .epoch) (s .quorum .leader) (s .quorum .isr) .0 (t .quorumState);
-      requests = λ e l. quorum-iff c (pos e) (requestAt s e .leader) (requestAt s e .isr) .0 (t .leaderAndIsrRequests (requestOf s e) (e, l, refl));
+      requests = λ e l. quorum-iff c (pos e) (requestAt s e .leader) (requestAt s e .isr) .0 (t .leaderAndIsrRequests (requestSent s e) (e, l, refl));
     }),
     (λ t. record {
       leaderEpochSeq = t .epochs;
@@ -174,22 +182,11 @@ module _ (s : State) where
           used = λ e q. let l = used e q in omega (arith, l, met .s1 .epochs);
           low = low;
           below = named .below;
-          members = isr-below c isr (met .s1 .ranges .replicas) (named .within);
+          members = member-within R isr (met .s1 .ranges .replicas) (named .within);
         }
 
-    -- the last epoch used is below the next one, or -1
-    last-used : (next : ℕ) (e : ℕ) → lastEpoch next ≡ pos e → e < next
-    unfolding lastEpoch
-    last-used zero e q = absurd (pos-negsuc e 0 (sym q))
-    last-used (suc n) e q = omega (arith, pos-injective n e q)
-
-    last-low : (next n : ℕ) → lastEpoch next ≡ negsuc n → n ≡ 0
-    unfolding lastEpoch
-    last-low zero n q = negsuc-injective n 0 (sym q)
-    last-low (suc e) n q = absurd (pos-negsuc e n q)
-
-    rules-types : TypesOnly s
-    rules-types =
+    rules-say : TypeOkSays s
+    rules-say =
         record {
           epochs = met .s1 .epochs;
           ids = met .s1 .ids;
@@ -215,13 +212,13 @@ module _ (s : State) where
         }
 
     pub rules-type-ok : TypeOk (constantsOf (s .limits)) (meaning s)
-    rules-type-ok = type-ok-iff (met .s1 .ranges .records-low) .1 rules-types
+    rules-type-ok = type-ok-iff (met .s1 .ranges .records-low) .1 rules-say
 
     -- each record of a log is one of LogRecords
     pub log-record-ok : (r offset : ℕ) → r < R → offset < replicaAt s r .end → LogRecords (constantsOf (s .limits)) (recordOf (recordAt (replicaAt s r) offset))
     log-record-ok r offset l o =
         record-iff c (recordAt (replicaAt s r) offset) (met .s1 .ranges .records-low) .1
-        (rules-types .records r offset (record { replica = l; offset = o }))
+        (rules-say .records r offset (record { replica = l; offset = o }))
 
 -- ---- states of the model that are equal have the types of the model alike
 log-type-same : (k : Constants) (x y : Log) → SameLog x y → LogType k y → LogType k x

@@ -13,7 +13,7 @@ use Rattle.logic.specs.Search.{Triple, triple, Before, firstTriple, first-tripl
 use Rattle.parts.specs.declared.Leader.the-variants.{Broker}
 use Rattle.parts.specs.Refusal.{accepted, brokenState}
 use Rattle.parts.specs.Isr.{member}
-use Rattle.parts.specs.IsrLaws.{within-iff, below-32}
+use Rattle.parts.specs.IsrLaws.{member-within}
 use Rattle.parts.specs.Leader.{names}
 use Rattle.parts.specs.LeaderLaws.{names-iff}
 use Rattle.replica.specs.Replica.{recordAt, SameReplica}
@@ -104,9 +104,7 @@ module _ (property : Property) (s : State) (h : rules s ≡ true) where
 
   asked-member : (r m x : ℕ) → Asked property s r m x → m < replicaCount (s .limits)
   asked-member r m x a =
-      let five = met .s1 .ranges .replicas in
-      let l = isr-within property r (a .replica) in
-      within-iff _ _ five (below-32 _ _ five l) .0 l m (a .member)
+      member-within (replicaCount (s .limits)) (isrAsked property s r) (met .s1 .ranges .replicas) (isr-within property r (a .replica)) m (a .member)
 
   -- what is asked about and does not differ is the same record
   same-by : (r m x : ℕ)
