@@ -5,3 +5,4 @@ pub mod Leader
 pub mod IsrLaws
 pub mod EpochLaws
 pub mod LeaderLaws
+pub mod ByteLaws

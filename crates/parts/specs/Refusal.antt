@@ -81,9 +81,25 @@ notFollowing = 18
 abbrev pub nothingToReplicate : ℕ
 nothingToReplicate = 19
 
+-- the bytes begin with another mark
+abbrev pub wrongMark : ℕ
+wrongMark = 20
+
+-- bytes are missing
+abbrev pub tooShort : ℕ
+tooShort = 21
+
 -- R, L, M or X is out of range
 abbrev pub badConfiguration : ℕ
 badConfiguration = 22
+
+-- bytes are left over
+abbrev pub leftOver : ℕ
+leftOver = 23
+
+-- the lent buffer is shorter than the answer
+abbrev pub bufferShort : ℕ
+bufferShort = 24
 
 -- no operands are accepted, so there is nothing to offer
 abbrev pub noOffer : ℕ

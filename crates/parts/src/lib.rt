@@ -6,8 +6,8 @@ ghost use mathlib.Core.Path.{_≡_};
 ghost use Prim.Native.Nat.{_≤_, _<_, min};
 ghost use lib.IntN.{pos};
 ghost use Rattle.parts.specs.Isr.{member, fullIsr, isrBelow, without, including, isAlone};
-ghost use Rattle.parts.specs.Epoch.{sameEpoch, higherEpoch, lastEpoch, epochUsed, requestPlace};
-ghost use Rattle.parts.specs.Leader.{names, sameLeader, leaderBelow, leaderInIsr};
+ghost use Rattle.parts.specs.Epoch.{sameEpoch, higherEpoch, lastEpoch, epochUsed, requestPlace, epochByte, epochOfByte};
+ghost use Rattle.parts.specs.Leader.{names, sameLeader, leaderBelow, leaderInIsr, leaderByte, leaderOfByte};
 
 // Whether replica i is in the ISR.
 pub fn is_member(isr: u8, i: u8) -> bool
@@ -130,6 +130,28 @@ pub fn request_place(e: i8) -> usize
     e as usize
 }
 
+// The byte of an epoch: -1 is 255.
+pub fn epoch_byte(e: i8) -> u8
+    ensures { λ r. ⌜ r ≡ epochByte e ⌝ }
+{
+    if e < 0 {
+        let below = (-1 - e) as u8;
+        return 255 - below;
+    }
+    e as u8
+}
+
+// The epoch of a byte: 255 is -1. The bytes 128 to 254 are -128 to -2, which no rule lets an epoch be.
+pub fn epoch_of_byte(b: u8) -> i8
+    ensures { λ r. ⌜ r ≡ epochOfByte b ⌝ }
+{
+    if b < 128 {
+        return b as i8;
+    }
+    let below = (255 - b) as i8;
+    -1 - below
+}
+
 // The leader that the quorum, a request or a replica names, or none. All zeros are none.
 pub enum Leader {
     None,
@@ -178,5 +200,24 @@ impl Leader {
             Leader::None => true,
             Leader::Broker(b) => is_member(isr, b),
         }
+    }
+    // The byte of a leader: none is 255.
+    pub fn byte(self) -> u8
+        ensures { λ r. ⌜ r ≡ leaderByte self ⌝ }
+    {
+        match self {
+            Leader::None => 255,
+            Leader::Broker(b) => b,
+        }
+    }
+
+    // The leader of a byte: 255 is none, every other byte is that replica, below R or not.
+    pub fn of_byte(b: u8) -> Leader
+        ensures { λ r. ⌜ r ≡ leaderOfByte b ⌝ }
+    {
+        if b == 255 {
+            return Leader::None;
+        }
+        Leader::Broker(b)
     }
 }

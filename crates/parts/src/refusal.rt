@@ -38,7 +38,15 @@ pub const MEMBER_BEHIND: u8 = 17;
 pub const NOT_FOLLOWING: u8 = 18;
 // The follower's end is not below the leader's.
 pub const NOTHING_TO_REPLICATE: u8 = 19;
+// The bytes begin with another mark.
+pub const WRONG_MARK: u8 = 20;
+// Bytes are missing.
+pub const TOO_SHORT: u8 = 21;
 // R, L, M or X is out of range.
 pub const BAD_CONFIGURATION: u8 = 22;
+// Bytes are left over.
+pub const LEFT_OVER: u8 = 23;
+// The lent buffer is shorter than the answer.
+pub const BUFFER_SHORT: u8 = 24;
 // No operands are accepted, so there is nothing to offer.
 pub const NO_OFFER: u8 = 26;
