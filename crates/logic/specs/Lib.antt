@@ -3,3 +3,5 @@ pub mod Table
 pub mod Refuse
 pub mod Lists
 pub mod Search
+pub mod Concat
+pub mod Stores
