@@ -7,7 +7,7 @@ mod kinds;
 mod leader;
 mod leadership;
 mod requests;
-mod rules;
+pub mod rules;
 mod tidy;
 
 ghost use mathlib.Core.Path.{_≡_};

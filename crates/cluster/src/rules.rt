@@ -25,7 +25,7 @@ fn is_between(low: u8, high: u8, n: u8) -> bool
 }
 
 // Whether R, L, M and X are in range.
-pub(crate) fn limits_in_range(c: Limits) -> bool
+pub fn limits_in_range(c: Limits) -> bool
     ensures { λ r. ⌜ r ≡ inRange c ⌝ }
 {
     if is_between(1, 5, c.replica_count) {
@@ -38,18 +38,25 @@ pub(crate) fn limits_in_range(c: Limits) -> bool
     false
 }
 
+// S1 of a configuration, a next epoch and a next id.
+pub fn sizes_in_range(c: Limits, next_epoch: u8, next_id: u8) -> bool
+    ensures { λ r. ⌜ r ≡ rule1 c «next_epoch» «next_id» ⌝ }
+{
+    if !limits_in_range(c) {
+        return false;
+    }
+    if c.max_leader_epoch + 1 < next_epoch {
+        return false;
+    }
+    next_id <= c.max_records
+}
+
 // S1: R, L, M, X in range; next epoch at most X+1; next id at most M.
 pub(crate) fn rule_1(s: State) -> bool
     ensures { λ r. ⌜ r ≡ rule1 (s .limits) (nextLeaderEpoch s) (nextRecordId s) ⌝ }
 {
     let c = s.limits;
-    if !limits_in_range(c) {
-        return false;
-    }
-    if c.max_leader_epoch + 1 < s.next_leader_epoch {
-        return false;
-    }
-    s.next_record_id <= c.max_records
+    sizes_in_range(c, s.next_leader_epoch, s.next_record_id)
 }
 
 // Whether a leader and an ISR are within n replicas.
