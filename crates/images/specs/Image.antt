@@ -1,0 +1,105 @@
+-- The image of a state, and what writing it answers. "State image: mark 4B 53, then R, L, M, X, next epoch, next id, quorum
+-- leader, quorum ISR; per request leader, ISR; per replica hw, epoch, leader, ISR, end, then (id, epoch) per record. One byte
+-- each; an ISR has bit i for replica i; none and -1 are 255." Assumes nothing.
+use Prim.Native.Nat.{ℕ, zero, suc}
+use mathlib.Core.Bool.{not}
+use mathlib.Core.List.{List, [], _∷_, _++_}
+use lib.Dec.{ltb}
+use lib.ListN.{length, drop}
+use Rattle.logic.specs.Refuse.{refuse}
+use Rattle.logic.specs.Concat.{concatBelow}
+use Rattle.parts.specs.Refusal.{accepted, brokenState, bufferShort}
+use Rattle.parts.specs.Epoch.{epochByte}
+use Rattle.parts.specs.Leader.{leaderByte}
+use Rattle.replica.specs.declared.Record.{Record}
+use Rattle.replica.specs.declared.Replica.{Replica}
+use Rattle.replica.specs.Replica.{recordAt}
+use Rattle.cluster.specs.declared.Request.{Request}
+use Rattle.cluster.specs.declared.State.{State}
+use Rattle.cluster.specs.State.{replicaCount, logSize, maxRecords, maxLeaderEpoch, nextLeaderEpoch, nextRecordId, requestAt, replicaAt}
+use Rattle.cluster.specs.Rules.{rules}
+use Rattle.images.specs.declared.Written.{Written}
+
+-- ---- the mark, 4B 53
+abbrev pub markFirst : ℕ
+markFirst = 75
+
+abbrev pub markSecond : ℕ
+markSecond = 83
+
+-- ---- the parts
+-- "(id, epoch) per record"
+abbrev pub recordBytes : Record → List ℕ
+recordBytes r = r .id ∷ epochByte (r .epoch) ∷ []
+
+-- the records of a log, up to its end
+abbrev pub recordBytesAt : Replica → ℕ → List ℕ
+recordBytesAt p x = recordBytes (recordAt p x)
+
+unfoldable pub logBytes : Replica → List ℕ
+logBytes p = concatBelow (p .end) (recordBytesAt p)
+
+-- "per request leader, ISR"
+abbrev pub requestBytes : Request → List ℕ
+requestBytes q = leaderByte (q .leader) ∷ q .isr ∷ []
+
+-- the request of epoch e
+abbrev pub requestBytesAt : State → ℕ → List ℕ
+requestBytesAt s e = requestBytes (requestAt s e)
+
+unfoldable pub requestsBytes : State → List ℕ
+requestsBytes s = concatBelow (nextLeaderEpoch s) (requestBytesAt s)
+
+-- "per replica hw, epoch, leader, ISR, end", then its log
+abbrev pub replicaHead : Replica → List ℕ
+replicaHead p = p .hw ∷ epochByte (p .epoch) ∷ leaderByte (p .leader) ∷ p .isr ∷ p .end ∷ []
+
+unfoldable pub replicaBytes : Replica → List ℕ
+replicaBytes p = replicaHead p ++ logBytes p
+
+-- the replica named i
+abbrev pub replicaBytesAt : State → ℕ → List ℕ
+replicaBytesAt s i = replicaBytes (replicaAt s i)
+
+unfoldable pub replicasBytes : State → List ℕ
+replicasBytes s = concatBelow (replicaCount (s .limits)) (replicaBytesAt s)
+
+-- "mark 4B 53, then R, L, M, X, next epoch, next id, quorum leader, quorum ISR"
+abbrev pub headerBytes : State → List ℕ
+headerBytes s =
+    markFirst
+    ∷ markSecond
+    ∷ replicaCount (s .limits)
+    ∷ logSize (s .limits)
+    ∷ maxRecords (s .limits)
+    ∷ maxLeaderEpoch (s .limits)
+    ∷ nextLeaderEpoch s
+    ∷ nextRecordId s
+    ∷ leaderByte (s .quorum .leader)
+    ∷ s .quorum .isr
+    ∷ []
+
+-- ---- the image
+unfoldable pub image : State → List ℕ
+image s = headerBytes s ++ (requestsBytes s ++ replicasBytes s)
+
+-- ---- writing into a lent buffer
+-- "Writing: bad state 1, then buffer shorter than the image 24"
+unfoldable pub writeRefusal : State → List ℕ → ℕ
+writeRefusal s buffer = refuse (not (rules s)) brokenState (refuse (ltb (length buffer) (length (image s))) bufferShort accepted)
+
+-- "It answers the image's length, 0 when refused."
+unfoldable pub writtenBy : ℕ → State → Written
+writtenBy zero s = record { refusal = accepted; length = length (image s) }
+writtenBy (suc n) s = record { refusal = suc n; length = 0 }
+
+unfoldable pub writeImage : State → List ℕ → Written
+writeImage s buffer = writtenBy (writeRefusal s buffer) s
+
+-- the buffer afterwards: the image at its front, and "bytes beyond the image stay"; "no refusal writes a lent buffer"
+unfoldable pub bufferBy : ℕ → State → List ℕ → List ℕ
+bufferBy zero s buffer = image s ++ drop (length (image s)) buffer
+bufferBy (suc n) s buffer = buffer
+
+unfoldable pub bufferAfter : State → List ℕ → List ℕ
+bufferAfter s buffer = bufferBy (writeRefusal s buffer) s buffer

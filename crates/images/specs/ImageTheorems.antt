@@ -1,0 +1,110 @@
+-- What is promised of images beside the contracts: a state that meets the rules has one image, which holds for that state and
+-- for no other, and no other bytes are read as that state. Assumes nothing.
+use Prim.Native.Nat.{ℕ, zero, suc, _+_, _-_, _≤_}
+use mathlib.Core.Path.{_≡_, refl, sym, _∙_, ap}
+use mathlib.Core.Bool.{Bool, true, false, cond}
+use mathlib.Core.List.{List, [], _∷_, _++_}
+use mathlib.Core.Logic.{_↔_}
+use native.Mathlib.Omega.{arith}
+use lib.ListN.{length, take, drop}
+use lib.Seq.{take-append-seam}
+use Rattle.logic.specs.Concat.{concatBelow, concat-cong}
+use Rattle.parts.specs.Refusal.{accepted, brokenState}
+use Rattle.replica.specs.declared.Replica.{Replica}
+use Rattle.replica.specs.Replica.{SameReplica}
+use Rattle.cluster.specs.declared.Limits.{Limits}
+use Rattle.cluster.specs.declared.State.{State}
+use Rattle.cluster.specs.declared.Outcome.{Outcome}
+use Rattle.cluster.specs.State.{replicaCount, nextLeaderEpoch, replicaAt, Same, tidy, zeroState}
+use Rattle.cluster.specs.Rules.{rules}
+use Rattle.cluster.specs.Equality.{same-sym, tidy-same, same-iff-tidy}
+use Rattle.cluster.specs.Unused.{rules-same}
+use Rattle.cluster.specs.Fresh.{answer}
+use Rattle.cluster.specs.Predicates.{rules-bounded, rules-logs-bounded}
+use Rattle.images.specs.Image.{requestBytes, requestBytesAt, requestsBytes, recordBytes, recordBytesAt, logBytes, replicaHead, replicaBytes, replicaBytesAt, replicasBytes, headerBytes, image, writeImage, bufferAfter}
+use Rattle.images.specs.WriteLaws.{writes-all}
+use Rattle.images.specs.Read.{Parsed, missing, endAbove, parsed, finished, readBody, readBy, readImage, headerRefusal, andThen, readRequests, readReplicas, headerState, refused}
+use Rattle.images.specs.PartLaws.{Bytes}
+use Rattle.images.specs.RoundTrip.{read-back, read-is-image, read-meets-rules}
+
+-- ---- equal states have one image
+same-log : (p q : Replica) → p .end ≤ 16 → SameReplica p q → logBytes p ≡ logBytes q
+unfolding logBytes
+same-log p q h m =
+    concat-cong (p .end) (recordBytesAt p) (recordBytesAt q) (λ x l. ap recordBytes (m .log x (omega arith) l))
+    ∙ ap (λ (n : ℕ). concatBelow n (recordBytesAt q)) (m .end)
+
+same-bytes : (p q : Replica) → p .end ≤ 16 → SameReplica p q → replicaBytes p ≡ replicaBytes q
+unfolding replicaBytes
+same-bytes p q h m =
+    let head : replicaHead p ≡ replicaHead q = cc (m .hw, m .epoch, m .leader, m .isr, m .end) in
+    ap (λ (l : List ℕ). replicaHead p ++ l) (same-log p q h m) ∙ ap (λ (l : List ℕ). l ++ logBytes q) head
+
+image-same : (s t : State) → rules s ≡ true → Same s t → image s ≡ image t
+unfolding image requestsBytes replicasBytes
+image-same s t h m =
+    let b = rules-bounded s h in
+    let requests : requestsBytes s ≡ requestsBytes t =
+    concat-cong (nextLeaderEpoch s) (requestBytesAt s) (requestBytesAt t) (λ e l. ap requestBytes (m .requests e (omega (arith, b .requests)) l))
+    ∙ ap (λ (n : ℕ). concatBelow n (requestBytesAt t)) (m .nextEpoch) in
+    let replicas : replicasBytes s ≡ replicasBytes t =
+    concat-cong (replicaCount (s .limits)) (replicaBytesAt s) (replicaBytesAt t)
+    (λ i l. same-bytes (replicaAt s i) (replicaAt t i) (rules-logs-bounded s h i l) (m .replicas i (omega (arith, b .replicas)) l))
+    ∙ ap (λ (n : ℕ). concatBelow n (replicaBytesAt t)) (ap (λ (c : Limits). replicaCount c) (m .limits)) in
+    let header : headerBytes s ≡ headerBytes t = cc (m .limits, m .nextEpoch, m .nextId, m .quorum) in
+    cc (header, requests, replicas)
+
+outcome-state : (s t : State) → answer accepted s ≡ answer accepted t → s ≡ t
+outcome-state s t h = ap (λ (o : Outcome). o .state) h
+
+-- two states that meet the rules have one image exactly when they are equal
+pub image-iff : (s t : State) → rules s ≡ true → rules t ≡ true → image s ≡ image t ↔ Same s t
+image-iff s t h k = (
+  (λ e. same-iff-tidy s t .1 (outcome-state (tidy s) (tidy t) (sym (read-back s h) ∙ ap readImage e ∙ read-back t k))),
+  image-same s t h,
+)
+
+-- ---- no other bytes give that state
+-- bytes are read as the state exactly when they are its image
+pub read-iff-image : (s : State) (bs : List ℕ) → rules s ≡ true → Bytes bs → readImage bs ≡ answer accepted (tidy s) ↔ bs ≡ image s
+read-iff-image s bs h b = (
+  (λ e. read-is-image bs (tidy s) b e ∙ sym (image-same s (tidy s) h (same-sym (tidy s) s (tidy-same s)))),
+  (λ e. ap readImage e ∙ read-back s h),
+)
+
+-- nor a state that is equal to it
+pub read-equal-is-image : (s t : State) (bs : List ℕ) → Bytes bs → readImage bs ≡ answer accepted t → Same s t → bs ≡ image s
+read-equal-is-image s t bs b e m =
+    read-is-image bs t b e ∙ sym (image-same s t (rules-same s t m ∙ read-meets-rules bs t e) m)
+
+-- "every state that is .. read has zeros there"
+pub read-tidy : (bs : List ℕ) (s : State) → Bytes bs → readImage bs ≡ answer accepted s → tidy s ≡ s
+read-tidy bs s b e =
+    outcome-state (tidy s) s (sym (read-back s (read-meets-rules bs s e)) ∙ ap readImage (sym (read-is-image bs s b e)) ∙ e)
+
+-- ---- what is written is read back
+pub read-written : (s : State) (buffer : List ℕ) → rules s ≡ true → length (image s) ≤ length buffer
+    → readImage (take (writeImage s buffer .length) (bufferAfter s buffer)) ≡ answer accepted (tidy s)
+read-written s buffer h k =
+    let w = writes-all s buffer h k in
+    rw (← (w .0), ← (w .1)) (ap readImage (take-append-seam (image s) (drop (length (image s)) buffer)) ∙ read-back s h)
+
+-- ---- "a refused read .. gives an all-zero state"
+finished-zero : (m : Parsed State) → (finished m .refusal ≡ accepted → ⊥) → finished m .state ≡ zeroState
+unfolding finished
+finished-zero missing h = refl
+finished-zero endAbove h = refl
+finished-zero (parsed s (b ∷ bs)) h = refl
+finished-zero (parsed s []) h = go (rules s) refl
+  where
+    go : (b : Bool) → rules s ≡ b → cond b (answer accepted s) (refused brokenState) .state ≡ zeroState
+    go true e = absurd (h (ap (λ (b : Bool). cond b (answer accepted s) (refused brokenState) .refusal) e))
+    go false e = refl
+
+pub read-refused-zero : (bs : List ℕ) → (readImage bs .refusal ≡ accepted → ⊥) → readImage bs .state ≡ zeroState
+unfolding readImage readBody readBy
+read-refused-zero bs h = go (headerRefusal bs) refl
+  where
+    go : (n : ℕ) → headerRefusal bs ≡ n → readBy n bs .state ≡ zeroState
+    go zero e = finished-zero (andThen (readRequests (headerState bs) (drop 10 bs)) readReplicas) (λ z. h (ap (λ (n : ℕ). readBy n bs .refusal) e ∙ z))
+    go (suc n) e = refl

@@ -1,0 +1,9 @@
+pub mod Image
+pub mod ImageLaws
+pub mod WriteLaws
+pub mod Read
+pub mod ReadLaws
+pub mod PartLaws
+pub mod RoundTrip
+pub mod ImageTheorems
+pub mod Longest

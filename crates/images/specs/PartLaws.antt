@@ -1,0 +1,131 @@
+-- Parts one after the other, there and back: what is written of each is read back into the array, and what is read is what is
+-- written of what was read. One induction each way, for records, requests and replicas alike. Assumes nothing.
+use Prim.Native.Nat.{ℕ, zero, suc, _+_, _≤_, _<_}
+use mathlib.Core.Path.{_≡_, refl, sym, _∙_, ap}
+use mathlib.Core.Bool.{Bool, true, false, cond}
+use mathlib.Core.List.{List, [], _∷_, _++_, append-assoc}
+use native.Mathlib.Numerals.{add-one}
+use native.Mathlib.Omega.{arith}
+use lib.Dec.{leb, ltb}
+use lib.ListN.{length, take, drop, getD, set, replicate, length-set, length-replicate, getD-replicate, take-append-drop}
+use lib.Seq.{length-take-le, getD-take, getD-append-add, getD-set-same, getD-set-other}
+use borrow.Author.Tests.{leb-true, le-leb, le-ltb}
+use Rattle.logic.specs.Table.{table, ext-table, cond-true, cond-false, splice, splice-turn}
+use Rattle.logic.specs.Concat.{concatBelow, concat-cong}
+use Rattle.images.specs.Read.{Parsed, missing, parsed, andThen, part, fill, byteAt}
+use Rattle.images.specs.ReadLaws.{then-parsed, then-from, parsed-value, parsed-rest}
+
+-- every number of the list is a byte, as the numbers of a `&[u8]` are
+pub record Bytes (bs : List ℕ) : Type 0 where
+  pub byte : (i : ℕ) → byteAt bs i < 256
+
+pub bytes-behind : (vs bs : List ℕ) → Bytes (vs ++ bs) → Bytes bs
+bytes-behind vs bs h = record { byte = λ i. rw (getD-append-add vs bs i 0) at (h .byte (length vs + i)) }
+
+pub bytes-none : Bytes []
+bytes-none = record { byte = λ i. omega arith }
+
+pub bytes-more : (b : ℕ) (bs : List ℕ) → b < 256 → Bytes bs → Bytes (b ∷ bs)
+bytes-more b bs h k = record { byte = at }
+  where
+    at : (i : ℕ) → byteAt (b ∷ bs) i < 256
+    at zero = h
+    at (suc i) = k .byte i
+
+pub bytes-append : (vs bs : List ℕ) → Bytes vs → Bytes bs → Bytes (vs ++ bs)
+bytes-append [] bs h k = k
+bytes-append (v ∷ vs) bs h k = bytes-more v (vs ++ bs) (h .byte 0) (bytes-append vs bs (bytes-behind (v ∷ []) vs h) k)
+
+pub bytes-concat : (n : ℕ) (f : ℕ → List ℕ) → ((i : ℕ) → i < n → Bytes (f i)) → Bytes (concatBelow n f)
+unfolding concatBelow
+bytes-concat zero f h = bytes-none
+bytes-concat (suc n) f h = bytes-append (concatBelow n f) (f n) (bytes-concat n f (λ i l. h i (omega arith))) (h n (omega arith))
+
+-- the first n bytes, and those behind them
+pub front : (n : ℕ) (bs : List ℕ) → n ≤ length bs → bs ≡ table n (byteAt bs) ++ drop n bs
+front n bs h =
+    sym (take-append-drop n bs)
+    ∙ ap (λ (l : List ℕ). l ++ drop n bs)
+    (ext-table 0 n (byteAt bs) (take n bs) (length-take-le n bs h) (λ i l. getD-take n bs i 0 l))
+
+-- ---- a part of n bytes
+module _ {A : Type 0} (n : ℕ) (value : List ℕ → A) where
+  pub part-back : (bs : List ℕ) → n ≤ length bs → part n value bs ≡ parsed (value bs) (drop n bs)
+  unfolding part
+  part-back bs h = cond-true (leb n (length bs)) (parsed (value bs) (drop n bs)) missing (le-leb n (length bs) h)
+
+  pub record PartRead (bs rest : List ℕ) (x : A) : Type 0 where
+    pub long : n ≤ length bs
+    pub said : value bs ≡ x
+    pub left : drop n bs ≡ rest
+
+  pub part-read-back : (bs rest : List ℕ) (x : A) → part n value bs ≡ parsed x rest → PartRead bs rest x
+  unfolding part
+  part-read-back bs rest x = go (leb n (length bs)) refl
+    where
+      go : (t : Bool) → leb n (length bs) ≡ t → cond t (parsed (value bs) (drop n bs)) missing ≡ parsed x rest → PartRead bs rest x
+      go true e h =
+          record {
+            long = leb-true n (length bs) e;
+            said = parsed-value (value bs) x (drop n bs) rest h;
+            left = parsed-rest (value bs) x (drop n bs) rest h;
+          }
+      go false e h = absurd (let z : _≡_ {A = ℕ} 0 1 = cc in omega arith)
+
+-- ---- written, and read back
+module _ {A : Type 0} (read : List ℕ → Parsed A) (write : ℕ → List ℕ) (value : ℕ → A) (z : A) (size : ℕ) where
+  start : replicate size z ≡ splice size 0 value (λ i. z)
+  start =
+      ext-table z size (λ i. cond (ltb i 0) (value i) z) (replicate size z) (length-replicate size z)
+      (λ i b. getD-replicate size i z z b ∙ sym (cond-false (ltb i 0) (value i) z (le-ltb i 0 (omega arith))))
+
+  -- the first n places hold the values, the others zeros
+  pub fill-back : (n : ℕ) → n ≤ size → ((i : ℕ) → i < n → (rest : List ℕ) → read (write i ++ rest) ≡ parsed (value i) rest)
+      → (rest : List ℕ) → fill read n (replicate size z) (concatBelow n write ++ rest) ≡ parsed (table size (λ i. cond (ltb i n) (value i) z)) rest
+  unfolding fill concatBelow
+  fill-back zero h one rest = ap (λ (l : List A). parsed l rest) start
+  fill-back (suc n) h one rest =
+      let before = fill-back n (omega arith) (λ i l. one i (omega arith)) (write n ++ rest) in
+      let turn : set (splice size n value (λ i. z)) n (value n) ≡ splice size (suc n) value (λ i. z) =
+      rw add-one at (splice-turn size n value (λ i. z) (omega arith)) in
+      ap (λ (bs : List ℕ). fill read (suc n) (replicate size z) bs) (append-assoc (concatBelow n write) (write n) rest)
+      ∙ then-parsed (fill read n (replicate size z) (concatBelow n write ++ (write n ++ rest)))
+      (λ l rest. andThen (read rest) (λ x left. parsed (set l n x) left)) (splice size n value (λ i. z)) (write n ++ rest) before
+      ∙ then-parsed (read (write n ++ rest)) (λ x left. parsed (set (splice size n value (λ i. z)) n x) left) (value n) rest (one n (omega arith) rest)
+      ∙ ap (λ (l : List A). parsed l rest) turn
+
+-- ---- read, and written again
+-- the bytes that a part was read from are those that are written of it
+abbrev pub Faithful : {A : Type 0} → (List ℕ → Parsed A) → (A → List ℕ) → Type 0
+Faithful {A} read write = (bs rest : List ℕ) (x : A) → Bytes bs → read bs ≡ parsed x rest → bs ≡ write x ++ rest
+
+module _ {A : Type 0} (read : List ℕ → Parsed A) (write : A → List ℕ) (d : A) (one : Faithful read write) where
+  pub record FillRead (n : ℕ) (array : List A) (bs rest : List ℕ) (l : List A) : Type 0 where
+    pub room : length l ≡ length array
+    pub bytes : bs ≡ concatBelow n (λ i. write (getD l i d)) ++ rest
+
+  pub fill-read-back : (n : ℕ) (array : List A) (bs rest : List ℕ) (l : List A) → n ≤ length array → Bytes bs
+      → fill read n array bs ≡ parsed l rest → FillRead n array bs rest l
+  unfolding fill concatBelow
+  fill-read-back zero array bs rest l h b e =
+      record { room = ap length (sym (parsed-value array l bs rest e)); bytes = parsed-rest array l bs rest e }
+  fill-read-back (suc n) array bs rest l h b e =
+      let f = then-from (fill read n array bs) (λ l rest. andThen (read rest) (λ x left. parsed (set l n x) left)) l rest e in
+      let g = then-from (read (f .1)) (λ x left. parsed (set (f .0) n x) left) l rest (f .3) in
+      let before = fill-read-back n array bs (f .1) (f .0) (omega arith) b (f .2) in
+      let last : f .1 ≡ write (g .0) ++ g .1 =
+      one (f .1) (g .1) (g .0) (bytes-behind (concatBelow n (λ i. write (getD (f .0) i d))) (f .1) (rw (before .bytes) at b)) (g .2) in
+      let put : set (f .0) n (g .0) ≡ l = parsed-value (set (f .0) n (g .0)) l (g .1) rest (g .3) in
+      let tail : g .1 ≡ rest = parsed-rest (set (f .0) n (g .0)) l (g .1) rest (g .3) in
+      let own : getD l n d ≡ g .0 = ap (λ (m : List A). getD m n d) (sym put) ∙ getD-set-same (f .0) n (g .0) d (omega (arith, before .room)) in
+      let same : concatBelow n (λ i. write (getD (f .0) i d)) ≡ concatBelow n (λ i. write (getD l i d)) =
+      concat-cong n (λ i. write (getD (f .0) i d)) (λ i. write (getD l i d))
+      (λ i k. ap write (sym (getD-set-other (f .0) n i (g .0) d (omega arith)) ∙ ap (λ (m : List A). getD m i d) put)) in
+      record {
+        room = ap length (sym put) ∙ length-set (f .0) n (g .0) ∙ before .room;
+        bytes =
+            before .bytes
+            ∙ ap (λ (m : List ℕ). m ++ f .1) same
+            ∙ ap (λ (m : List ℕ). concatBelow n (λ i. write (getD l i d)) ++ m) (last ∙ ap (λ (v : A). write v ++ g .1) (sym own) ∙ ap (λ (m : List ℕ). write (getD l n d) ++ m) tail)
+            ∙ sym (append-assoc (concatBelow n (λ i. write (getD l i d))) (write (getD l n d)) rest);
+      }

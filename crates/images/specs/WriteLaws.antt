@@ -1,0 +1,51 @@
+-- What writing an image answers, case by case: the state breaks a rule, the buffer is short, or the image is written.
+-- Assumes nothing.
+use Prim.Native.Nat.{ℕ, suc, _≤_, _<_}
+use mathlib.Core.Path.{_≡_, sym, _∙_, ap}
+use mathlib.Core.Bool.{true, false, not}
+use mathlib.Core.List.{List, _++_}
+use lib.Dec.{ltb}
+use lib.ListN.{length, drop}
+use borrow.Author.Tests.{lt-ltb, le-ltb}
+use Rattle.logic.specs.Refuse.{refuse-yes, refuse-no}
+use Rattle.parts.specs.Refusal.{accepted, brokenState, bufferShort}
+use Rattle.cluster.specs.declared.State.{State}
+use Rattle.cluster.specs.Rules.{rules}
+use Rattle.images.specs.declared.Written.{Written}
+use Rattle.images.specs.Image.{image, writeRefusal, writtenBy, writeImage, bufferBy, bufferAfter}
+
+-- an answer: a number and a length
+abbrev pub written : ℕ → ℕ → Written
+written number n = record { refusal = number; length = n }
+
+-- what is answered, and the buffer afterwards
+abbrev pub Writes : State → List ℕ → Written → List ℕ → Type 0
+Writes s buffer answer after = (answer ≡ writeImage s buffer) × (after ≡ bufferAfter s buffer)
+
+module _ (s : State) (buffer : List ℕ) where
+  writes-refused : (n : ℕ) → writeRefusal s buffer ≡ suc n → Writes s buffer (written (suc n) 0) buffer
+  unfolding writeImage writtenBy bufferAfter bufferBy
+  writes-refused n h = (rw h, rw h)
+
+  pub writes-broken : rules s ≡ false → Writes s buffer (written brokenState 0) buffer
+  unfolding writeRefusal
+  writes-broken h = writes-refused 0 (sym (refuse-yes (not (rules s)) brokenState _ (ap not h)))
+
+  pub writes-short : rules s ≡ true → length buffer < length (image s) → Writes s buffer (written bufferShort 0) buffer
+  unfolding writeRefusal
+  writes-short h k =
+      writes-refused 23
+      (sym
+      (refuse-yes (ltb (length buffer) (length (image s))) bufferShort accepted (lt-ltb (length buffer) (length (image s)) k)
+      ∙ refuse-no (not (rules s)) brokenState _ (ap not h)))
+
+  pub writes-all : rules s ≡ true → length (image s) ≤ length buffer
+      → Writes s buffer (written accepted (length (image s))) (image s ++ drop (length (image s)) buffer)
+  unfolding writeRefusal writeImage writtenBy bufferAfter bufferBy
+  writes-all h k = (rw none, rw none)
+    where
+      none : writeRefusal s buffer ≡ accepted
+      none =
+          sym
+          (refuse-no (ltb (length buffer) (length (image s))) bufferShort accepted (le-ltb (length buffer) (length (image s)) k)
+          ∙ refuse-no (not (rules s)) brokenState _ (ap not h))

@@ -1,0 +1,59 @@
+// The image of a state: written into a lent buffer, and read back.
+mod read;
+mod write;
+
+ghost use mathlib.Core.Path.{_≡_};
+ghost use Rattle.images.specs.Image.{writeImage, bufferAfter};
+ghost use Rattle.images.specs.Read.{readImage};
+use cluster::Outcome;
+use cluster::State;
+use parts::refusal::ACCEPTED;
+use parts::refusal::BUFFER_SHORT;
+
+// The mark of a state image: 4B 53.
+const MARK_FIRST: u8 = 75;
+
+const MARK_SECOND: u8 = 83;
+
+// What writing answers: a number, 0 for accepted, and the image's length, which is 0 beside a refusal.
+pub struct Written {
+    pub refusal: u8,
+    pub length: usize,
+}
+
+// Writes the image of a state at the front of a lent buffer; bytes beyond it stay. 1 where the state breaks a rule, then 24
+// where the buffer is shorter than the image; refused, it writes nothing.
+pub fn write_image(s: State, out: &mut [u8]) -> Written
+    ensures { λ r. ⌜ (r ≡ writeImage s (now (out .entry))) × (now (out .exit) ≡ bufferAfter s (now (out .entry))) ⌝ }
+{
+    let broken = s.state_refusal();
+    if broken != ACCEPTED {
+        return Written {
+            refusal: broken,
+            length: 0,
+        };
+    }
+    let length = write::image_length(s);
+    if out.len() < length {
+        return Written {
+            refusal: BUFFER_SHORT,
+            length: 0,
+        };
+    }
+    let end = write::put_image(&mut out[..], s);
+    Written {
+        refusal: ACCEPTED,
+        length: end,
+    }
+}
+
+// Reads an image: the state with zeros in its unused room, or a number and an all-zero state.
+pub fn read_image(bytes: &[u8]) -> Outcome
+    ensures { λ r. ⌜ r ≡ readImage (now (bytes .entry)) ⌝ }
+{
+    let refusal = read::header_refusal(bytes);
+    if refusal != ACCEPTED {
+        return read::refused(refusal);
+    }
+    read::read_body(bytes)
+}

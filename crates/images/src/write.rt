@@ -1,0 +1,168 @@
+// The writer: each part is put at a place of the buffer, and the place behind it is answered. The caller of each function
+// shows that the buffer has room for the part, and that no log or array is read past its end.
+ghost use mathlib.Core.Path.{_≡_};
+ghost use mathlib.Core.Bool.{true};
+ghost use Prim.Native.Nat.{_+_, _≤_};
+ghost use lib.ListN.{length};
+ghost use Rattle.cluster.specs.State.{replicaCount};
+ghost use Rattle.cluster.specs.Rules.{rules, Bounded, LogsBounded};
+ghost use Rattle.logic.specs.Stores.{Stored};
+ghost use Rattle.images.specs.Image.{recordBytes, logBytes, requestBytes, requestsBytes, replicaBytes, replicasBytes, headerBytes, image};
+use crate::MARK_FIRST;
+use crate::MARK_SECOND;
+use cluster::Request;
+use cluster::State;
+use replica::Record;
+use replica::Replica;
+
+// A record: id, epoch.
+fn put_record(out: &mut [u8], at: usize, r: Record) -> usize
+    requires { ⌜ at + length (recordBytes r) ≤ length (now out) ⌝ }
+    ensures { λ n. ⌜ Stored (now (out .entry)) at (recordBytes r) (now (out .exit)) n ⌝ }
+{
+    let epoch = parts::epoch_byte(r.epoch);
+    out[at] = r.id;
+    out[at + 1] = epoch;
+    at + 2
+}
+
+// The records of a log.
+fn put_log(out: &mut [u8], at: usize, p: Replica) -> usize
+    requires { ⌜ p .end ≤ 16 ⌝ }
+    requires { ⌜ at + length (logBytes p) ≤ length (now out) ⌝ }
+    ensures { λ n. ⌜ Stored (now (out .entry)) at (logBytes p) (now (out .exit)) n ⌝ }
+{
+    let end = p.end as usize;
+    let mut x: usize = 0;
+    let mut pos = at;
+    while x < end {
+        let r = p.log[x];
+        pos = put_record(&mut out[..], pos, r);
+        x = x + 1;
+    }
+    pos
+}
+
+// A request: leader, ISR.
+fn put_request(out: &mut [u8], at: usize, q: Request) -> usize
+    requires { ⌜ at + length (requestBytes q) ≤ length (now out) ⌝ }
+    ensures { λ n. ⌜ Stored (now (out .entry)) at (requestBytes q) (now (out .exit)) n ⌝ }
+{
+    let l = q.leader;
+    let leader = l.byte();
+    out[at] = leader;
+    out[at + 1] = q.isr;
+    at + 2
+}
+
+// The requests that were sent.
+fn put_requests(out: &mut [u8], at: usize, s: State) -> usize
+    requires { ⌜ Bounded s ⌝ }
+    requires { ⌜ at + length (requestsBytes s) ≤ length (now out) ⌝ }
+    ensures { λ n. ⌜ Stored (now (out .entry)) at (requestsBytes s) (now (out .exit)) n ⌝ }
+{
+    let next = s.next_leader_epoch as usize;
+    let mut e: usize = 0;
+    let mut pos = at;
+    while e < next {
+        let q = s.requests[e];
+        pos = put_request(&mut out[..], pos, q);
+        e = e + 1;
+    }
+    pos
+}
+
+// A replica: hw, epoch, leader, ISR, end, and its log.
+fn put_replica(out: &mut [u8], at: usize, p: Replica) -> usize
+    requires { ⌜ p .end ≤ 16 ⌝ }
+    requires { ⌜ at + length (replicaBytes p) ≤ length (now out) ⌝ }
+    ensures { λ n. ⌜ Stored (now (out .entry)) at (replicaBytes p) (now (out .exit)) n ⌝ }
+{
+    let epoch = parts::epoch_byte(p.epoch);
+    let l = p.leader;
+    let leader = l.byte();
+    out[at] = p.hw;
+    out[at + 1] = epoch;
+    out[at + 2] = leader;
+    out[at + 3] = p.isr;
+    out[at + 4] = p.end;
+    put_log(&mut out[..], at + 5, p)
+}
+
+// The replicas 0 to R-1.
+fn put_replicas(out: &mut [u8], at: usize, s: State) -> usize
+    requires { ⌜ Bounded s ⌝ }
+    requires { ⌜ LogsBounded s ⌝ }
+    requires { ⌜ at + length (replicasBytes s) ≤ length (now out) ⌝ }
+    ensures { λ n. ⌜ Stored (now (out .entry)) at (replicasBytes s) (now (out .exit)) n ⌝ }
+{
+    let c = s.limits;
+    let count = c.replica_count as usize;
+    let mut i: usize = 0;
+    let mut pos = at;
+    while i < count {
+        let p = s.replicas[i];
+        pos = put_replica(&mut out[..], pos, p);
+        i = i + 1;
+    }
+    pos
+}
+
+// The first ten bytes.
+fn put_header(out: &mut [u8], s: State) -> usize
+    requires { ⌜ length (headerBytes s) ≤ length (now out) ⌝ }
+    ensures { λ n. ⌜ Stored (now (out .entry)) 0 (headerBytes s) (now (out .exit)) n ⌝ }
+{
+    let c = s.limits;
+    let q = s.quorum;
+    let l = q.leader;
+    let leader = l.byte();
+    out[0] = MARK_FIRST;
+    out[1] = MARK_SECOND;
+    out[2] = c.replica_count;
+    out[3] = c.log_size;
+    out[4] = c.max_records;
+    out[5] = c.max_leader_epoch;
+    out[6] = s.next_leader_epoch;
+    out[7] = s.next_record_id;
+    out[8] = leader;
+    out[9] = q.isr;
+    10
+}
+
+// The image of a state that meets the rules, at the front of the buffer.
+pub(crate) fn put_image(out: &mut [u8], s: State) -> usize
+    requires { ⌜ rules s ≡ true ⌝ }
+    requires { ⌜ length (image s) ≤ length (now out) ⌝ }
+    ensures { λ n. ⌜ Stored (now (out .entry)) 0 (image s) (now (out .exit)) n ⌝ }
+{
+    let requests = put_header(&mut out[..], s);
+    let replicas = put_requests(&mut out[..], requests, s);
+    put_replicas(&mut out[..], replicas, s)
+}
+
+// How many bytes the replicas take: 5 each, and 2 for each record.
+fn replicas_length(s: State) -> usize
+    requires { ⌜ Bounded s ⌝ }
+    requires { ⌜ LogsBounded s ⌝ }
+    ensures { λ n. ⌜ n ≡ length (replicasBytes s) ⌝ }
+{
+    let c = s.limits;
+    let count = c.replica_count as usize;
+    let mut i: usize = 0;
+    let mut sum: usize = 0;
+    while i < count {
+        let p = s.replicas[i];
+        sum = sum + 5 + 2 * (p.end as usize);
+        i = i + 1;
+    }
+    sum
+}
+
+// The length of the image of a state that meets the rules.
+pub(crate) fn image_length(s: State) -> usize
+    requires { ⌜ rules s ≡ true ⌝ }
+    ensures { λ n. ⌜ n ≡ length (image s) ⌝ }
+{
+    10 + 2 * (s.next_leader_epoch as usize) + replicas_length(s)
+}
