@@ -1,0 +1,12 @@
+// Runs images through compiled code. Standard input has the cases: a byte that says how many bytes follow, and those bytes,
+// to be read as an image. A line for each case: the number and a digest of the state; where it is accepted, also what writing
+// that state answers and leaves in buffers that are long enough, exact, short and empty, and what a broken state answers. The
+// files stdin and stdout were made by a second program, whose rules and images were written from the paper alone.
+mod cases;
+mod digest;
+
+fn main() {
+    let mut buffer = io::large_buffer();
+    let n = io::read_full(0, &mut buffer);
+    cases::all(&buffer[..n]);
+}
