@@ -4,7 +4,7 @@ ghost use mathlib.Core.Path.{_≡_};
 ghost use Prim.Native.Nat.{_+_, _≤_};
 ghost use lib.ListN.{length, drop};
 ghost use Rattle.parts.specs.Refusal.{accepted};
-ghost use Rattle.cluster.specs.State.{replicaCount, logSize, nextLeaderEpoch};
+ghost use Rattle.cluster.specs.State.{logSize};
 ghost use Rattle.cluster.specs.Rules.{Bounded};
 ghost use Rattle.images.specs.Read.{byteAt, recordOf, requestOf, replicaOfHead, readLog, readReplica, readRequests, readReplicas, limitsOf, headerState, marked, headerRefusal, refused, finished, parsed, readBody};
 ghost use Rattle.images.specs.ReadLaws.{ReadAs};

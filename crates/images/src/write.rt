@@ -4,7 +4,6 @@ ghost use mathlib.Core.Path.{_≡_};
 ghost use mathlib.Core.Bool.{true};
 ghost use Prim.Native.Nat.{_+_, _≤_};
 ghost use lib.ListN.{length};
-ghost use Rattle.cluster.specs.State.{replicaCount};
 ghost use Rattle.cluster.specs.Rules.{rules, Bounded, LogsBounded};
 ghost use Rattle.logic.specs.Stores.{Stored};
 ghost use Rattle.images.specs.Image.{recordBytes, logBytes, requestBytes, requestsBytes, replicaBytes, replicasBytes, headerBytes, image};
