@@ -24,7 +24,7 @@ use Rattle.cluster.specs.declared.Quorum.{Quorum}
 use Rattle.cluster.specs.declared.Request.{Request}
 use Rattle.cluster.specs.declared.State.{State}
 use Rattle.cluster.specs.State.{replicaCount, logSize, maxRecords, maxLeaderEpoch, nextLeaderEpoch, nextRecordId, requestIn, requestAt, replicaAt}
-use Rattle.cluster.specs.Rules.{between, inRange, rule1, leaderAndIsrInRange, replicaInRange, replicaInRangeAt, requestInRangeAt, rule2Tests, rule2, quorumMatchesRequest, rule3, requestLeaderInIsr, rule4, replicaMatchesRequest, replicaMeetsS5Tests, replicaMeetsS5, replicaMeetsS5At, rule5, logInUseAt, rule6, agreesWithAt, agreesWithAll, agreesAt, rule7, ruleTests, rules, Bounded, LogsBounded}
+use Rattle.cluster.specs.Rules.{between, inRange, rule1, leaderAndIsrInRange, replicaInRange, replicaInRangeAt, requestInRangeAt, rule2Tests, rule2, quorumMatchesRequest, rule3, requestLeaderInIsr, rule4, replicaMatchesRequest, replicaMeetsS5Tests, replicaMeetsS5, replicaMeetsS5At, rule5, logInUseAt, rule6, agreesWithAt, agreesWithAll, agreesAt, rule7, ruleTests, rules}
 use Rattle.cluster.specs.RuleLaws.{Ranges, Sizes, sizes-of}
 
 -- ---- the predicates
@@ -345,14 +345,3 @@ rules-iff s = (
       (every-and _ _ (rule6-iff s .1 (m .s6))
       (every-and _ _ (rule7-iff s .1 (m .s7)) every-none))))))),
 )
-
--- ---- so no array is read past its end
-pub rules-bounded : (s : State) → rules s ≡ true → Bounded s
-rules-bounded s h =
-    let z = rules-iff s .0 h .s1 in
-    record { replicas = z .ranges .replicas; requests = omega (arith, z .epochs, z .ranges .epochs) }
-
-pub rules-logs-bounded : (s : State) → rules s ≡ true → LogsBounded s
-rules-logs-bounded s h i l =
-    let r = rules-iff s .0 h in
-    omega (arith, r .s2 .ends i l, r .s1 .ranges .log)

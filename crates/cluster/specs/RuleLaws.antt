@@ -160,3 +160,12 @@ refusal-broken s h = go (rules s) refl
     go : (b : Bool) → rules s ≡ b → (rules s ≡ false) × (stateRefusal s ≡ brokenState)
     go true e = absurd (h (cond-true (rules s) accepted brokenState e))
     go false e = (e, cond-false (rules s) accepted brokenState e)
+
+-- a state that meets the rules is read past the end of no array
+pub rules-bounded : (s : State) → rules s ≡ true → Bounded s
+unfolding rules
+rules-bounded s h = bounded-of s (every-at (ruleTests s) h 0)
+
+pub rules-logs-bounded : (s : State) → rules s ≡ true → LogsBounded s
+unfolding rules
+rules-logs-bounded s h = logs-bounded-of s (every-at (ruleTests s) h 0) (every-at (ruleTests s) h 1)

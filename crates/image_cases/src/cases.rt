@@ -3,8 +3,11 @@ ghost use Prim.Native.Nat.{_≤_};
 ghost use mathlib.Core.Path.{_≡_};
 ghost use lib.ListN.{length};
 use crate::digest;
+use cluster::Quorum;
+use cluster::Request;
 use cluster::State;
 use libc::STDOUT_FILENO;
+use parts::Leader;
 
 // A number after a space.
 fn number(v: u64) {
@@ -35,17 +38,39 @@ fn trial(s: State, size: usize)
     write_into(s, &mut buffer[..size]);
 }
 
-// The state as it was read, and a state that breaks a rule.
+// The state with something in its unused room, where the request of epoch 15 was not sent.
+fn untidy(s: State) -> State {
+    let mut t = s;
+    if s.next_leader_epoch < 16 {
+        let other = Request {
+            leader: Leader::Broker(200),
+            isr: 99,
+        };
+        t.requests[15] = other;
+    }
+    t
+}
+
+// The state as it was read, and with something in unused room; and states that break S1 and S3.
 fn trials(s: State, length: u8) {
     let size = length as usize;
-    let mut broken = s;
-    broken.next_record_id = 255;
+    let mut ids = s;
+    ids.next_record_id = 255;
+    let none = Quorum {
+        epoch: 100,
+        leader: Leader::None,
+        isr: 0,
+    };
+    let mut quorum = s;
+    quorum.quorum = none;
     trial(s, (size + 3) % 257);
     trial(s, size);
     trial(s, (size + 256) % 257);
     trial(s, 0);
-    trial(broken, size);
-    trial(broken, 0);
+    trial(ids, size);
+    trial(ids, 0);
+    trial(untidy(s), size);
+    trial(quorum, size);
 }
 
 // One case: the bytes, of which there are so many.

@@ -1,7 +1,8 @@
 // Runs images through compiled code. Standard input has the cases: a byte that says how many bytes follow, and those bytes,
 // to be read as an image. A line for each case: the number and a digest of the state; where it is accepted, also what writing
-// that state answers and leaves in buffers that are long enough, exact, short and empty, and what a broken state answers. The
-// files stdin and stdout were made by a second program, whose rules and images were written from the paper alone.
+// that state answers and leaves in buffers that are long enough, exact, short and empty, what it answers with something in
+// unused room, and what states answer that break S1 and S3. The files stdin and stdout were made by a second program, whose
+// rules and images were written from the paper alone.
 mod cases;
 mod digest;
 

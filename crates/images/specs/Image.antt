@@ -27,6 +27,19 @@ markFirst = 75
 abbrev pub markSecond : ℕ
 markSecond = 83
 
+-- ---- how many bytes the first part, a request, a replica without its log, and a record have
+abbrev pub headerWidth : ℕ
+headerWidth = 10
+
+abbrev pub requestWidth : ℕ
+requestWidth = 2
+
+abbrev pub replicaWidth : ℕ
+replicaWidth = 5
+
+abbrev pub recordWidth : ℕ
+recordWidth = 2
+
 -- ---- the parts
 -- "(id, epoch) per record"
 abbrev pub recordBytes : Record → List ℕ
@@ -96,7 +109,7 @@ writtenBy (suc n) s = record { refusal = suc n; length = 0 }
 unfoldable pub writeImage : State → List ℕ → Written
 writeImage s buffer = writtenBy (writeRefusal s buffer) s
 
--- the buffer afterwards: the image at its front, and "bytes beyond the image stay"; "no refusal writes a lent buffer"
+-- the buffer afterwards: the image at its front, and "bytes beyond the image stay"; "No refusal writes a lent buffer."
 unfoldable pub bufferBy : ℕ → State → List ℕ → List ℕ
 bufferBy zero s buffer = image s ++ drop (length (image s)) buffer
 bufferBy (suc n) s buffer = buffer

@@ -9,7 +9,7 @@ use Rattle.replica.specs.declared.Replica.{Replica}
 use Rattle.cluster.specs.declared.State.{State}
 use Rattle.cluster.specs.State.{replicaCount, nextLeaderEpoch, replicaAt}
 use Rattle.cluster.specs.Rules.{rules, LogsBounded}
-use Rattle.cluster.specs.Predicates.{rules-bounded, rules-logs-bounded}
+use Rattle.cluster.specs.RuleLaws.{rules-bounded, rules-logs-bounded}
 use Rattle.images.specs.Image.{recordBytesAt, logBytes, requestBytesAt, requestsBytes, replicaBytes, replicaBytesAt, replicasBytes, image}
 
 -- ---- lengths

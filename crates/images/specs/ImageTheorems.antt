@@ -1,11 +1,12 @@
--- What is promised of images beside the contracts: a state that meets the rules has one image, which holds for that state and
--- for no other, and no other bytes are read as that state. Assumes nothing.
-use Prim.Native.Nat.{ℕ, zero, suc, _+_, _-_, _≤_}
+-- A state that meets the rules has one image, which is the image of that state and of no other, and no other bytes are read as
+-- that state; equal states are written alike. These go by read-back and read-is-image (RoundTrip). Assumes nothing.
+use Prim.Native.Nat.{ℕ, zero, suc, _≤_}
 use mathlib.Core.Path.{_≡_, refl, sym, _∙_, ap}
 use mathlib.Core.Bool.{Bool, true, false, cond}
 use mathlib.Core.List.{List, [], _∷_, _++_}
 use mathlib.Core.Logic.{_↔_}
 use native.Mathlib.Omega.{arith}
+use native.Mathlib.Decide.{decLt}
 use lib.ListN.{length, take, drop}
 use lib.Seq.{take-append-seam}
 use Rattle.logic.specs.Concat.{concatBelow, concat-cong}
@@ -20,9 +21,10 @@ use Rattle.cluster.specs.Rules.{rules}
 use Rattle.cluster.specs.Equality.{same-sym, tidy-same, same-iff-tidy}
 use Rattle.cluster.specs.Unused.{rules-same}
 use Rattle.cluster.specs.Fresh.{answer}
-use Rattle.cluster.specs.Predicates.{rules-bounded, rules-logs-bounded}
+use Rattle.cluster.specs.RuleLaws.{rules-bounded, rules-logs-bounded}
 use Rattle.images.specs.Image.{requestBytes, requestBytesAt, requestsBytes, recordBytes, recordBytesAt, logBytes, replicaHead, replicaBytes, replicaBytesAt, replicasBytes, headerBytes, image, writeImage, bufferAfter}
-use Rattle.images.specs.WriteLaws.{writes-all}
+use Rattle.images.specs.declared.Written.{Written}
+use Rattle.images.specs.WriteLaws.{Writes, writes-broken, writes-short, writes-all}
 use Rattle.images.specs.Read.{Parsed, missing, endAbove, parsed, finished, readBody, readBy, readImage, headerRefusal, andThen, readRequests, readReplicas, headerState, refused}
 use Rattle.images.specs.PartLaws.{Bytes}
 use Rattle.images.specs.RoundTrip.{read-back, read-is-image, read-meets-rules}
@@ -81,6 +83,26 @@ read-equal-is-image s t bs b e m =
 pub read-tidy : (bs : List ℕ) (s : State) → Bytes bs → readImage bs ≡ answer accepted s → tidy s ≡ s
 read-tidy bs s b e =
     outcome-state (tidy s) s (sym (read-back s (read-meets-rules bs s e)) ∙ ap readImage (sym (read-is-image bs s b e)) ∙ e)
+
+-- ---- equal states are written alike, broken ones too
+pub write-same : (s t : State) (buffer : List ℕ) → Same s t → (writeImage s buffer ≡ writeImage t buffer) × (bufferAfter s buffer ≡ bufferAfter t buffer)
+write-same s t buffer m = go (rules s) refl
+  where
+    alike : (a : Written) (after : List ℕ) → Writes s buffer a after → Writes t buffer a after
+        → (writeImage s buffer ≡ writeImage t buffer) × (bufferAfter s buffer ≡ bufferAfter t buffer)
+    alike a after p q = (sym (p .0) ∙ q .0, sym (p .1) ∙ q .1)
+
+    go : (b : Bool) → rules s ≡ b → (writeImage s buffer ≡ writeImage t buffer) × (bufferAfter s buffer ≡ bufferAfter t buffer)
+    go false h = alike _ _ (writes-broken s buffer h) (writes-broken t buffer (sym (rules-same s t m) ∙ h))
+    go true h =
+        let e : image s ≡ image t = image-same s t h m in
+        let k : rules t ≡ true = sym (rules-same s t m) ∙ h in
+        elim (decLt (length buffer) (length (image s))) [
+          | yes l ↦ alike _ _ (writes-short s buffer h l) (writes-short t buffer k (rw e at l))
+          | no l ↦
+              let room : length (image s) ≤ length buffer = omega arith in
+              alike _ _ (writes-all s buffer h room) (rw e (writes-all t buffer k (rw e at room)))
+        ]
 
 -- ---- what is written is read back
 pub read-written : (s : State) (buffer : List ℕ) → rules s ≡ true → length (image s) ≤ length buffer

@@ -7,3 +7,4 @@ pub mod PartLaws
 pub mod RoundTrip
 pub mod ImageTheorems
 pub mod Longest
+pub mod ImageExample

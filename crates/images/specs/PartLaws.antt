@@ -9,13 +9,13 @@ use native.Mathlib.Omega.{arith}
 use lib.Dec.{leb, ltb}
 use lib.ListN.{length, take, drop, getD, set, replicate, length-set, length-replicate, getD-replicate, take-append-drop}
 use lib.Seq.{length-take-le, getD-take, getD-append-add, getD-set-same, getD-set-other}
-use borrow.Author.Tests.{leb-true, le-leb, le-ltb}
-use Rattle.logic.specs.Table.{table, ext-table, cond-true, cond-false, splice, splice-turn}
+use borrow.Author.Tests.{leb-true, le-ltb}
+use Rattle.logic.specs.Table.{table, ext-table, cond-false, splice, splice-turn}
 use Rattle.logic.specs.Concat.{concatBelow, concat-cong}
 use Rattle.images.specs.Read.{Parsed, missing, parsed, andThen, part, fill, byteAt}
 use Rattle.images.specs.ReadLaws.{then-parsed, then-from, parsed-value, parsed-rest}
 
--- every number of the list is a byte, as the numbers of a `&[u8]` are
+-- every number of the list is a byte; those of a `&[u8]` are (proofs/read_image/Proof.antt)
 pub record Bytes (bs : List ℕ) : Type 0 where
   pub byte : (i : ℕ) → byteAt bs i < 256
 
@@ -50,10 +50,6 @@ front n bs h =
 
 -- ---- a part of n bytes
 module _ {A : Type 0} (n : ℕ) (value : List ℕ → A) where
-  pub part-back : (bs : List ℕ) → n ≤ length bs → part n value bs ≡ parsed (value bs) (drop n bs)
-  unfolding part
-  part-back bs h = cond-true (leb n (length bs)) (parsed (value bs) (drop n bs)) missing (le-leb n (length bs) h)
-
   pub record PartRead (bs rest : List ℕ) (x : A) : Type 0 where
     pub long : n ≤ length bs
     pub said : value bs ≡ x

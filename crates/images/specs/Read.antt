@@ -20,7 +20,7 @@ use Rattle.cluster.specs.declared.Outcome.{Outcome}
 use Rattle.cluster.specs.State.{replicaCount, logSize, nextLeaderEpoch, zeroRequest, stateOf, withRequests, withReplicas, zeroState}
 use Rattle.cluster.specs.Rules.{inRange, rule1, rules}
 use Rattle.cluster.specs.Fresh.{answer}
-use Rattle.images.specs.Image.{markFirst, markSecond}
+use Rattle.images.specs.Image.{markFirst, markSecond, headerWidth, requestWidth, replicaWidth, recordWidth}
 
 -- ---- a part of an image, read off the front of the bytes
 -- what a part gives: a value and the bytes behind it; or it is missing, or has an end above L
@@ -65,14 +65,14 @@ abbrev pub recordOf : List ℕ → Record
 recordOf bs = record { id = byteAt bs 0; epoch = epochOfByte (byteAt bs 1) }
 
 abbrev pub readRecord : List ℕ → Parsed Record
-readRecord bs = part 2 recordOf bs
+readRecord bs = part recordWidth recordOf bs
 
 -- "per request leader, ISR"
 abbrev pub requestOf : List ℕ → Request
 requestOf bs = record { leader = leaderOfByte (byteAt bs 0); isr = byteAt bs 1 }
 
 abbrev pub readRequest : List ℕ → Parsed Request
-readRequest bs = part 2 requestOf bs
+readRequest bs = part requestWidth requestOf bs
 
 -- "per replica hw, epoch, leader, ISR, end", with an empty log as yet
 abbrev pub replicaOfHead : List ℕ → Replica
@@ -88,7 +88,7 @@ unfoldable pub readLogWithin : ℕ → Replica → List ℕ → Parsed Replica
 readLogWithin l p bs = cond (leb (p .end) l) (readLog p bs) endAbove
 
 unfoldable pub readReplica : ℕ → List ℕ → Parsed Replica
-readReplica l bs = andThen (part 5 replicaOfHead bs) (readLogWithin l)
+readReplica l bs = andThen (part replicaWidth replicaOfHead bs) (readLogWithin l)
 
 -- the requests, one for each epoch below the next one
 unfoldable pub readRequests : State → List ℕ → Parsed State
@@ -122,7 +122,7 @@ marked bs = eqb (byteAt bs 0) markFirst && eqb (byteAt bs 1) markSecond
 -- last is S1
 unfoldable pub headerRefusal : List ℕ → ℕ
 headerRefusal bs =
-    refuse (ltb (length bs) 10) tooShort
+    refuse (ltb (length bs) headerWidth) tooShort
     (refuse (not (marked bs)) wrongMark
     (refuse (not (inRange (limitsOf bs))) badConfiguration
     (refuse (not (rule1 (limitsOf bs) (byteAt bs 6) (byteAt bs 7))) brokenState
@@ -135,14 +135,14 @@ refused number = answer number zeroState
 
 -- "bytes left over 23; other state rules 1"
 unfoldable pub finished : Parsed State → Outcome
-finished missing = refused tooShort
-finished endAbove = refused brokenState
+finished missing = refused (refusalOf {A = State} missing)
+finished endAbove = refused (refusalOf {A = State} endAbove)
 finished (parsed s (b ∷ bs)) = refused leftOver
 finished (parsed s []) = cond (rules s) (answer accepted s) (refused brokenState)
 
 -- what follows the first ten bytes, front to back
 unfoldable pub readBody : List ℕ → Outcome
-readBody bs = finished (andThen (readRequests (headerState bs) (drop 10 bs)) readReplicas)
+readBody bs = finished (andThen (readRequests (headerState bs) (drop headerWidth bs)) readReplicas)
 
 unfoldable pub readBy : ℕ → List ℕ → Outcome
 readBy zero bs = readBody bs

@@ -21,7 +21,7 @@ use Rattle.cluster.specs.declared.Request.{Request}
 use Rattle.cluster.specs.declared.State.{State}
 use Rattle.cluster.specs.State.{logSize, nextLeaderEpoch, withRequests}
 use Rattle.cluster.specs.Rules.{inRange, rule1, rules, Bounded}
-use Rattle.cluster.specs.RuleLaws.{Sizes, sizes-of}
+use Rattle.cluster.specs.RuleLaws.{Sizes, sizes-of, bounded-of}
 use Rattle.cluster.specs.Fresh.{answer}
 use Rattle.images.specs.Read.{Parsed, missing, endAbove, parsed, refusalOf, andThen, part, fill, fillIn, byteAt, readRequest, replicaOfHead, readRequests, headerState, readLog, readLogWithin, readReplica, limitsOf, marked, headerRefusal, refused, finished, readBody, readBy, readImage}
 
@@ -49,11 +49,14 @@ byte-at bs at k = getD-drop at bs k 0
 pub first-byte : (bs : List ℕ) (at : ℕ) → byteAt (drop at bs) 0 ≡ getD bs at 0
 first-byte bs at = byte-at bs at 0 ∙ ap (λ (k : ℕ). getD bs k 0) (add-zero at)
 
--- ---- a part of n bytes at a place
+-- ---- a part of n bytes, and at a place
+pub part-back : {A : Type 0} (n : ℕ) (value : List ℕ → A) (bs : List ℕ) → n ≤ length bs → part n value bs ≡ parsed (value bs) (drop n bs)
+unfolding part
+part-back n value bs h = cond-true (leb n (length bs)) (parsed (value bs) (drop n bs)) missing (le-leb n (length bs) h)
+
 pub part-read : {A : Type 0} (n : ℕ) (value : List ℕ → A) (bs : List ℕ) (at : ℕ) → at + n ≤ length bs
     → part n value (drop at bs) ≡ parsed (value (drop at bs)) (drop (at + n) bs)
-unfolding part
-part-read n value bs at h = rw (length-drop, le-leb n (length bs - at) (omega arith), drop-drop)
+part-read n value bs at h = part-back n value (drop at bs) (rw length-drop (omega arith)) ∙ ap (λ (l : List ℕ). parsed (value (drop at bs)) l) (drop-drop n at bs)
 
 pub part-missing : {A : Type 0} (n : ℕ) (value : List ℕ → A) (bs : List ℕ) (at : ℕ) → length bs - at < n
     → part n value (drop at bs) ≡ missing
@@ -197,23 +200,19 @@ header-in-range bs h =
       sizes = not-false (rule1 (limitsOf bs) (byteAt bs 6) (byteAt bs 7)) (d .0);
     }
 
--- the state that they give has arrays for all its requests and replicas, and logs for its ends
 pub header-sizes : (bs : List ℕ) → HeaderInRange bs → Sizes (limitsOf bs) (byteAt bs 6) (byteAt bs 7)
 header-sizes bs h = sizes-of (limitsOf bs) (byteAt bs 6) (byteAt bs 7) (h .sizes)
 
-header-bounded : (bs : List ℕ) → HeaderInRange bs → Bounded (headerState bs)
-unfolding headerState
-header-bounded bs h = let z = header-sizes bs h in record { replicas = z .ranges .replicas; requests = omega (arith, z .epochs, z .ranges .epochs) }
-
--- what holds of that state's sizes holds after its requests are read
+-- a state has arrays for all its requests and replicas, and logs for its ends
 pub record Room (s : State) : Type 0 where
   pub bounded : Bounded s
   pub logs : logSize (s .limits) ≤ 16
 
 pub header-room : (bs : List ℕ) → HeaderInRange bs → Room (headerState bs)
 unfolding headerState
-header-room bs h = record { bounded = header-bounded bs h; logs = header-sizes bs h .ranges .log }
+header-room bs h = record { bounded = bounded-of (headerState bs) (h .sizes); logs = header-sizes bs h .ranges .log }
 
+-- that stays so where its requests are read
 pub requests-room : (s t : State) (bs rest : List ℕ) → readRequests s bs ≡ parsed t rest → Room s → Room t
 unfolding readRequests fillIn
 requests-room s t bs rest h r =

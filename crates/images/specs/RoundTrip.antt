@@ -1,5 +1,5 @@
 -- A state that meets the rules has one image: reading it back gives the state, and no other bytes do. Assumes nothing.
-use Prim.Native.Nat.{ℕ, zero, suc, _+_, _^_, _≤_, _<_}
+use Prim.Native.Nat.{ℕ, zero, suc, _^_, _≤_, _<_}
 use mathlib.Core.Path.{_≡_, refl, sym, _∙_, ap, subst}
 use mathlib.Core.Bool.{Bool, true, false, not, cond}
 use mathlib.Core.List.{List, [], _∷_, _++_, append-nil}
@@ -29,14 +29,15 @@ use Rattle.cluster.specs.declared.State.{State}
 use Rattle.cluster.specs.declared.Outcome.{Outcome}
 use Rattle.cluster.specs.State.{replicaCount, logSize, nextLeaderEpoch, nextRecordId, zeroRequest, requestAt, replicaAt, stateOf, withRequests, withReplicas, tidyRequestAt, tidyReplicaAt, tidy}
 use Rattle.cluster.specs.Rules.{inRange, rule1Tests, rule1, ruleTests, rules}
-use Rattle.cluster.specs.Predicates.{Named, MatchesRequest, rules-iff, rules-bounded}
+use Rattle.cluster.specs.RuleLaws.{rules-bounded}
+use Rattle.cluster.specs.Predicates.{Named, MatchesRequest, rules-iff}
 use Rattle.cluster.specs.Unused.{rules-tidy}
 use Rattle.cluster.specs.Fresh.{answer}
 use Rattle.images.specs.Image.{markFirst, markSecond, recordBytes, recordBytesAt, logBytes, requestBytes, requestBytesAt, requestsBytes, replicaHead, replicaBytes, replicaBytesAt, replicasBytes, headerBytes, image}
 use Rattle.images.specs.ImageLaws.{image-length}
-use Rattle.images.specs.Read.{Parsed, missing, endAbove, parsed, andThen, part, fill, fillIn, byteAt, recordOf, readRecord, requestOf, readRequest, replicaOfHead, readLog, readLogWithin, readReplica, readRequests, readReplicas, headerState, marked, headerRefusal, refused, finished, readBody, readBy, readImage}
-use Rattle.images.specs.ReadLaws.{then-parsed, then-from, parsed-value, parsed-rest, HeaderInRange, header-in-range, header-sizes}
-use Rattle.images.specs.PartLaws.{Bytes, bytes-none, bytes-more, bytes-append, bytes-concat, bytes-behind, front, part-back, part-read-back, fill-back, Faithful, fill-read-back}
+use Rattle.images.specs.Read.{Parsed, missing, endAbove, parsed, andThen, part, fill, fillIn, byteAt, recordOf, readRecord, requestOf, readRequest, replicaOfHead, readLog, readLogWithin, readReplica, readRequests, readReplicas, headerState, marked, headerRefusal, refused, finished, readBody, readBy, readImage, refusalOf}
+use Rattle.images.specs.ReadLaws.{part-back, then-parsed, then-from, parsed-value, parsed-rest, HeaderInRange, header-in-range, header-sizes}
+use Rattle.images.specs.PartLaws.{Bytes, bytes-none, bytes-more, bytes-append, bytes-concat, bytes-behind, front, part-read-back, fill-back, Faithful, fill-read-back}
 
 -- ---- written, and read back
 record-back : (r : Record) (rest : List ℕ) → mag (r .epoch) < 128 → readRecord (recordBytes r ++ rest) ≡ parsed r rest
@@ -77,7 +78,6 @@ head-back p rest h k =
 replica-back : (l : ℕ) (p : Replica) (rest : List ℕ) → Writable l p → readReplica l (replicaBytes p ++ rest) ≡ parsed (tidyReplica p) rest
 unfolding readReplica readLogWithin replicaBytes
 replica-back l p rest w =
-    let bare : Replica = withLog p (replicate 16 zeroRecord) in
     then-parsed (part 5 replicaOfHead (replicaHead p ++ (logBytes p ++ rest))) (readLogWithin l) (withLog p (replicate 16 zeroRecord)) (logBytes p ++ rest)
     (head-back p (logBytes p ++ rest) (w .epoch) (w .leader))
     ∙ cond-true (leb (p .end) l) (readLog (withLog p (replicate 16 zeroRecord)) (logBytes p ++ rest)) endAbove (le-leb (p .end) l (w .end))
@@ -330,7 +330,7 @@ header-faithful bs h =
 
 -- what was read whole is a state that meets the rules, with nothing left over
 finished-accepted : (m : Parsed State) (s : State) → finished m ≡ answer accepted s → (m ≡ parsed s []) × (rules s ≡ true)
-unfolding finished
+unfolding finished refusalOf
 finished-accepted missing s h = absurd (let z : _≡_ {A = ℕ} 21 0 = ap (λ (o : Outcome). o .refusal) h in omega arith)
 finished-accepted endAbove s h = absurd (let z : _≡_ {A = ℕ} 1 0 = ap (λ (o : Outcome). o .refusal) h in omega arith)
 finished-accepted (parsed t (b ∷ bs)) s h = absurd (let z : _≡_ {A = ℕ} 23 0 = ap (λ (o : Outcome). o .refusal) h in omega arith)

@@ -1,12 +1,14 @@
--- What writing an image answers, case by case: the state breaks a rule, the buffer is short, or the image is written.
--- Assumes nothing.
-use Prim.Native.Nat.{ℕ, suc, _≤_, _<_}
-use mathlib.Core.Path.{_≡_, sym, _∙_, ap}
+-- What writing an image answers, case by case: the state breaks a rule, the buffer is short, or the image is written; and the
+-- bytes of a part stored one by one. Assumes nothing.
+use Prim.Native.Nat.{ℕ, suc, _+_, _≤_, _<_}
+use mathlib.Core.Path.{_≡_, refl, sym, _∙_, ap}
 use mathlib.Core.Bool.{true, false, not}
-use mathlib.Core.List.{List, _++_}
+use mathlib.Core.List.{List, [], _∷_, _++_}
+use native.Mathlib.Numerals.{towards-suc}
 use lib.Dec.{ltb}
-use lib.ListN.{length, drop}
+use lib.ListN.{length, drop, set}
 use borrow.Author.Tests.{lt-ltb, le-ltb}
+use Rattle.logic.specs.Stores.{Stored}
 use Rattle.logic.specs.Refuse.{refuse-yes, refuse-no}
 use Rattle.parts.specs.Refusal.{accepted, brokenState, bufferShort}
 use Rattle.cluster.specs.declared.State.{State}
@@ -49,3 +51,11 @@ module _ (s : State) (buffer : List ℕ) where
           sym
           (refuse-no (ltb (length buffer) (length (image s))) bufferShort accepted (le-ltb (length buffer) (length (image s)) k)
           ∙ refuse-no (not (rules s)) brokenState _ (ap not h))
+
+-- ---- two bytes, and five, stored one by one
+pub stored-2 : (l : List ℕ) (at a b : ℕ) → Stored l at (a ∷ b ∷ []) (set (set l at a) (at + 1) b) (at + 2)
+stored-2 l at a b = record { place = refl; list = simp towards-suc }
+
+pub stored-5 : (l : List ℕ) (at a b c d e : ℕ)
+    → Stored l at (a ∷ b ∷ c ∷ d ∷ e ∷ []) (set (set (set (set (set l at a) (at + 1) b) (at + 2) c) (at + 3) d) (at + 4) e) (at + 5)
+stored-5 l at a b c d e = record { place = refl; list = simp towards-suc }

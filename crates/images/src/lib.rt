@@ -15,6 +15,15 @@ const MARK_FIRST: u8 = 75;
 
 const MARK_SECOND: u8 = 83;
 
+// How many bytes the first part, a request, a replica without its log, and a record have.
+const HEADER_WIDTH: usize = 10;
+
+const REQUEST_WIDTH: usize = 2;
+
+const REPLICA_WIDTH: usize = 5;
+
+const RECORD_WIDTH: usize = 2;
+
 // What writing answers: a number, 0 for accepted, and the image's length, which is 0 beside a refusal.
 pub struct Written {
     pub refusal: u8,

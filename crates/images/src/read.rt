@@ -1,15 +1,21 @@
-// The reader: each part is read at a place of the bytes, and the place behind it is answered with it. The caller of each
-// function shows that the place is in the bytes.
+// The reader: a part whose length can vary is read at a place of the bytes, and the place behind it is answered with it; a part
+// of fixed length is read by its bytes. The caller of each function shows that the place, and all bytes of a part of fixed
+// length, are there.
 ghost use mathlib.Core.Path.{_≡_};
 ghost use Prim.Native.Nat.{_+_, _≤_};
 ghost use lib.ListN.{length, drop};
 ghost use Rattle.parts.specs.Refusal.{accepted};
 ghost use Rattle.cluster.specs.State.{logSize};
 ghost use Rattle.cluster.specs.Rules.{Bounded};
+ghost use Rattle.images.specs.Image.{headerWidth, requestWidth, replicaWidth, recordWidth};
 ghost use Rattle.images.specs.Read.{byteAt, recordOf, requestOf, replicaOfHead, readLog, readReplica, readRequests, readReplicas, limitsOf, headerState, marked, headerRefusal, refused, finished, parsed, readBody};
 ghost use Rattle.images.specs.ReadLaws.{ReadAs};
+use crate::HEADER_WIDTH;
 use crate::MARK_FIRST;
 use crate::MARK_SECOND;
+use crate::RECORD_WIDTH;
+use crate::REPLICA_WIDTH;
+use crate::REQUEST_WIDTH;
 use cluster::Limits;
 use cluster::Outcome;
 use cluster::Quorum;
@@ -42,7 +48,7 @@ struct StateRead {
 
 // A record: id, epoch.
 fn record_of(bytes: &[u8], at: usize) -> Record
-    requires { ⌜ at + 2 ≤ length (now bytes) ⌝ }
+    requires { ⌜ at + recordWidth ≤ length (now bytes) ⌝ }
     ensures { λ r. ⌜ r ≡ recordOf (drop at (now (bytes .entry))) ⌝ }
 {
     let epoch = parts::epoch_of_byte(bytes[at + 1]);
@@ -63,7 +69,7 @@ fn read_log(bytes: &[u8], at: usize, p: Replica) -> ReplicaRead
     let mut x: usize = 0;
     let mut pos = at;
     while x < end {
-        if bytes.len() - pos < 2 {
+        if bytes.len() - pos < RECORD_WIDTH {
             return ReplicaRead {
                 refusal: TOO_SHORT,
                 at: pos,
@@ -72,7 +78,7 @@ fn read_log(bytes: &[u8], at: usize, p: Replica) -> ReplicaRead
         }
         let r = record_of(bytes, pos);
         q.log[x] = r;
-        pos = pos + 2;
+        pos = pos + RECORD_WIDTH;
         x = x + 1;
     }
     ReplicaRead {
@@ -84,7 +90,7 @@ fn read_log(bytes: &[u8], at: usize, p: Replica) -> ReplicaRead
 
 // A request: leader, ISR.
 fn request_of(bytes: &[u8], at: usize) -> Request
-    requires { ⌜ at + 2 ≤ length (now bytes) ⌝ }
+    requires { ⌜ at + requestWidth ≤ length (now bytes) ⌝ }
     ensures { λ r. ⌜ r ≡ requestOf (drop at (now (bytes .entry))) ⌝ }
 {
     let leader = Leader::of_byte(bytes[at]);
@@ -105,7 +111,7 @@ fn read_requests(bytes: &[u8], at: usize, s: State) -> StateRead
     let mut e: usize = 0;
     let mut pos = at;
     while e < next {
-        if bytes.len() - pos < 2 {
+        if bytes.len() - pos < REQUEST_WIDTH {
             return StateRead {
                 refusal: TOO_SHORT,
                 at: pos,
@@ -114,7 +120,7 @@ fn read_requests(bytes: &[u8], at: usize, s: State) -> StateRead
         }
         let q = request_of(bytes, pos);
         t.requests[e] = q;
-        pos = pos + 2;
+        pos = pos + REQUEST_WIDTH;
         e = e + 1;
     }
     StateRead {
@@ -126,7 +132,7 @@ fn read_requests(bytes: &[u8], at: usize, s: State) -> StateRead
 
 // A replica up to its log: hw, epoch, leader, ISR, end.
 fn replica_of_head(bytes: &[u8], at: usize) -> Replica
-    requires { ⌜ at + 5 ≤ length (now bytes) ⌝ }
+    requires { ⌜ at + replicaWidth ≤ length (now bytes) ⌝ }
     ensures { λ r. ⌜ r ≡ replicaOfHead (drop at (now (bytes .entry))) ⌝ }
 {
     let epoch = parts::epoch_of_byte(bytes[at + 1]);
@@ -148,7 +154,7 @@ fn read_replica(bytes: &[u8], at: usize, log_size: u8) -> ReplicaRead
     requires { ⌜ at ≤ length (now bytes) ⌝ }
     ensures { λ r. ⌜ ReadAs (readReplica «log_size» (drop at (now (bytes .entry)))) (now (bytes .entry)) (r .refusal) (r .at) (r .replica) ⌝ }
 {
-    if bytes.len() - at < 5 {
+    if bytes.len() - at < REPLICA_WIDTH {
         return ReplicaRead {
             refusal: TOO_SHORT,
             at: at,
@@ -163,7 +169,7 @@ fn read_replica(bytes: &[u8], at: usize, log_size: u8) -> ReplicaRead
             replica: p,
         };
     }
-    read_log(bytes, at + 5, p)
+    read_log(bytes, at + REPLICA_WIDTH, p)
 }
 
 // The state with its replicas.
@@ -212,7 +218,7 @@ fn is_marked(bytes: &[u8]) -> bool
 
 // R, L, M, X.
 fn limits_of(bytes: &[u8]) -> Limits
-    requires { ⌜ 10 ≤ length (now bytes) ⌝ }
+    requires { ⌜ headerWidth ≤ length (now bytes) ⌝ }
     ensures { λ r. ⌜ r ≡ limitsOf (now (bytes .entry)) ⌝ }
 {
     Limits {
@@ -227,7 +233,7 @@ fn limits_of(bytes: &[u8]) -> Limits
 pub(crate) fn header_refusal(bytes: &[u8]) -> u8
     ensures { λ r. ⌜ r ≡ headerRefusal (now (bytes .entry)) ⌝ }
 {
-    if bytes.len() < 10 {
+    if bytes.len() < HEADER_WIDTH {
         return TOO_SHORT;
     }
     if !is_marked(bytes) {
@@ -246,7 +252,7 @@ pub(crate) fn header_refusal(bytes: &[u8]) -> u8
 // The state that the first ten bytes give, with zeros for requests and replicas. The caller shows also that the next epoch is
 // in range.
 fn header_state(bytes: &[u8]) -> State
-    requires { ⌜ 10 ≤ length (now bytes) ⌝ }
+    requires { ⌜ headerWidth ≤ length (now bytes) ⌝ }
     requires { ⌜ byteAt (now bytes) 6 ≤ 16 ⌝ }
     ensures { λ r. ⌜ r ≡ headerState (now (bytes .entry)) ⌝ }
 {
@@ -277,8 +283,8 @@ pub(crate) fn refused(number: u8) -> Outcome
     }
 }
 
-// What all parts together give: bytes left over are refused, and then a state that breaks a rule. The caller shows that the
-// place is that of the bytes behind the last part.
+// What the state of all parts gives, with the place behind the last: bytes left over are refused, and then a state that breaks
+// a rule. The caller shows that the place is in the bytes.
 fn finish(bytes: &[u8], at: usize, s: State) -> Outcome
     requires { ⌜ at ≤ length (now bytes) ⌝ }
     ensures { λ r. ⌜ r ≡ finished (parsed s (drop at (now (bytes .entry)))) ⌝ }
@@ -302,7 +308,7 @@ pub(crate) fn read_body(bytes: &[u8]) -> Outcome
     ensures { λ r. ⌜ r ≡ readBody (now (bytes .entry)) ⌝ }
 {
     let header = header_state(bytes);
-    let first = read_requests(bytes, 10, header);
+    let first = read_requests(bytes, HEADER_WIDTH, header);
     if first.refusal != ACCEPTED {
         return refused(first.refusal);
     }

@@ -1,5 +1,5 @@
-// The writer: each part is put at a place of the buffer, and the place behind it is answered. The caller of each function
-// shows that the buffer has room for the part, and that no log or array is read past its end.
+// The writer: each part is put at a place of the buffer, and the place behind it is answered; before that, the length of all of
+// them. The caller of each function shows that the buffer has room for the part, and that no log or array is read past its end.
 ghost use mathlib.Core.Path.{_≡_};
 ghost use mathlib.Core.Bool.{true};
 ghost use Prim.Native.Nat.{_+_, _≤_};
@@ -7,8 +7,12 @@ ghost use lib.ListN.{length};
 ghost use Rattle.cluster.specs.Rules.{rules, Bounded, LogsBounded};
 ghost use Rattle.logic.specs.Stores.{Stored};
 ghost use Rattle.images.specs.Image.{recordBytes, logBytes, requestBytes, requestsBytes, replicaBytes, replicasBytes, headerBytes, image};
+use crate::HEADER_WIDTH;
 use crate::MARK_FIRST;
 use crate::MARK_SECOND;
+use crate::RECORD_WIDTH;
+use crate::REPLICA_WIDTH;
+use crate::REQUEST_WIDTH;
 use cluster::Request;
 use cluster::State;
 use replica::Record;
@@ -22,7 +26,7 @@ fn put_record(out: &mut [u8], at: usize, r: Record) -> usize
     let epoch = parts::epoch_byte(r.epoch);
     out[at] = r.id;
     out[at + 1] = epoch;
-    at + 2
+    at + RECORD_WIDTH
 }
 
 // The records of a log.
@@ -51,7 +55,7 @@ fn put_request(out: &mut [u8], at: usize, q: Request) -> usize
     let leader = l.byte();
     out[at] = leader;
     out[at + 1] = q.isr;
-    at + 2
+    at + REQUEST_WIDTH
 }
 
 // The requests that were sent.
@@ -85,7 +89,7 @@ fn put_replica(out: &mut [u8], at: usize, p: Replica) -> usize
     out[at + 2] = leader;
     out[at + 3] = p.isr;
     out[at + 4] = p.end;
-    put_log(&mut out[..], at + 5, p)
+    put_log(&mut out[..], at + REPLICA_WIDTH, p)
 }
 
 // The replicas 0 to R-1.
@@ -126,7 +130,7 @@ fn put_header(out: &mut [u8], s: State) -> usize
     out[7] = s.next_record_id;
     out[8] = leader;
     out[9] = q.isr;
-    10
+    HEADER_WIDTH
 }
 
 // The image of a state that meets the rules, at the front of the buffer.
@@ -140,7 +144,7 @@ pub(crate) fn put_image(out: &mut [u8], s: State) -> usize
     put_replicas(&mut out[..], replicas, s)
 }
 
-// How many bytes the replicas take: 5 each, and 2 for each record.
+// How many bytes the replicas take.
 fn replicas_length(s: State) -> usize
     requires { ⌜ Bounded s ⌝ }
     requires { ⌜ LogsBounded s ⌝ }
@@ -152,7 +156,7 @@ fn replicas_length(s: State) -> usize
     let mut sum: usize = 0;
     while i < count {
         let p = s.replicas[i];
-        sum = sum + 5 + 2 * (p.end as usize);
+        sum = sum + REPLICA_WIDTH + RECORD_WIDTH * (p.end as usize);
         i = i + 1;
     }
     sum
@@ -163,5 +167,5 @@ pub(crate) fn image_length(s: State) -> usize
     requires { ⌜ rules s ≡ true ⌝ }
     ensures { λ n. ⌜ n ≡ length (image s) ⌝ }
 {
-    10 + 2 * (s.next_leader_epoch as usize) + replicas_length(s)
+    HEADER_WIDTH + REQUEST_WIDTH * (s.next_leader_epoch as usize) + replicas_length(s)
 }

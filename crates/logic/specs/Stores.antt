@@ -3,7 +3,6 @@ use Prim.Native.Nat.{ℕ, suc, _+_, _≤_, _<_}
 use mathlib.Core.Path.{_≡_, refl, sym, _∙_, ap}
 use mathlib.Core.List.{List, [], _∷_, _++_}
 use native.Mathlib.Nat.{add-zero, add-suc, suc-add, zero-add}
-use native.Mathlib.Numerals.{towards-suc}
 use native.Mathlib.Omega.{arith}
 use lib.ListN.{length, drop, set, length-append}
 use lib.Seq.{sets, length-sets, sets-eq}
@@ -58,11 +57,3 @@ module _ {A : Type 0} (f : ℕ → List A) where
   pub storing-end : (i n : ℕ) → i ≤ n → n ≤ i → {l : List A} {at : ℕ} {l′ : List A} {at′ : ℕ}
       → Stored l at (concatBelow i f) l′ at′ → Stored l at (concatBelow n f) l′ at′
   storing-end i n h k w = let e : i ≡ n = omega arith in rw e at w
-
--- ---- single stores
-pub stored-2 : {A : Type 0} (l : List A) (at : ℕ) (a b : A) → Stored l at (a ∷ b ∷ []) (set (set l at a) (at + 1) b) (at + 2)
-stored-2 l at a b = record { place = refl; list = simp towards-suc }
-
-pub stored-5 : {A : Type 0} (l : List A) (at : ℕ) (a b c d e : A)
-    → Stored l at (a ∷ b ∷ c ∷ d ∷ e ∷ []) (set (set (set (set (set l at a) (at + 1) b) (at + 2) c) (at + 3) d) (at + 4) e) (at + 5)
-stored-5 l at a b c d e = record { place = refl; list = simp towards-suc }

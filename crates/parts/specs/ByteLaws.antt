@@ -11,7 +11,6 @@ use mir.Syntax.{w8}
 use mir.Val.{ofZ, toZ, Fits, SFits}
 use mir.Facts.{toZ-ofZ, ofZ-toZ}
 use borrow.Author.Tests.{ltb-true, le-ltb, eqb-true, ne-eqb}
-use Rattle.logic.specs.Tests.{true-false}
 use Rattle.parts.specs.Epoch.{lastEpoch, epochByte, epochOfByte}
 use Rattle.parts.specs.Leader.{leaderByte, leaderOfByte}
 use Rattle.parts.specs.declared.Leader.{Leader}
@@ -70,36 +69,30 @@ leader-byte-back b = go (eqb b 255) refl
     go true h = sym (eqb-true b 255 h)
     go false h = refl
 
--- ---- in code: -1 less an epoch turns its sign
-turn-negative : (n : ℕ) → negsuc 0 -ℤ negsuc n ≡ pos n
-turn-negative n = rw (le-ltb (suc n) 1 (omega arith)) (ap pos (omega arith))
+-- ---- in code: -1 minus an epoch is its complement; -1, -2, .. become 0, 1, .. and back
+complement-negative : (n : ℕ) → negsuc 0 -ℤ negsuc n ≡ pos n
+complement-negative n = rw (le-ltb (suc n) 1 (omega arith)) (ap pos (omega arith))
 
-pub turn-number : (n : ℕ) → negsuc 0 -ℤ pos n ≡ negsuc n
-turn-number zero = refl
-turn-number (suc n) = ap negsuc (rw zero-add)
+pub complement-number : (n : ℕ) → negsuc 0 -ℤ pos n ≡ negsuc n
+complement-number zero = refl
+complement-number (suc n) = ap negsuc (rw zero-add)
 
--- of an epoch below 0: turned it fits and is a number, and that number below 255 is the epoch's byte
-pub record Turned (z : ℤ) : Type 0 where
+-- of an epoch below 0: its complement fits and is a number, and 255 minus that number is the epoch's byte
+pub record Complement (z : ℤ) : Type 0 where
   pub small : SFits w8 (negsuc 0 -ℤ z)
   pub sign : T (nonNeg (negsuc 0 -ℤ z))
   pub fits : Fits w8 (natAbs (negsuc 0 -ℤ z))
   pub most : natAbs (negsuc 0 -ℤ z) ≤ 255
   pub byte : 255 - natAbs (negsuc 0 -ℤ z) ≡ epochByte z
 
-pub turned : (z : ℤ) → SFits w8 z → ltZ z (pos 0) ≡ true → Turned z
+pub complement : (z : ℤ) → SFits w8 z → ltZ z (pos 0) ≡ true → Complement z
 unfolding epochByte
-turned (pos n) f h = absurd (let l : n < 0 = ltb-true n 0 h in omega arith)
-turned (negsuc n) f h =
+complement (pos n) f h = absurd (let l : n < 0 = ltb-true n 0 h in omega arith)
+complement (negsuc n) f h =
     record {
-      small = rw (turn-negative n) (record { sfits = f .sfits });
-      sign = rw (turn-negative n) tt;
-      fits = rw (turn-negative n) (record { fits = omega (arith, f .sfits) });
-      most = rw (turn-negative n) (omega (arith, f .sfits));
-      byte = rw (turn-negative n);
+      small = rw (complement-negative n) (record { sfits = f .sfits });
+      sign = rw (complement-negative n) tt;
+      fits = rw (complement-negative n) (record { fits = omega (arith, f .sfits) });
+      most = rw (complement-negative n) (omega (arith, f .sfits));
+      byte = rw (complement-negative n);
     }
-
--- an epoch from 0 on is a number that fits, and that number is its byte
-pub counted-byte : (z : ℤ) → SFits w8 z → ltZ z (pos 0) ≡ false → T (nonNeg z) × Fits w8 (natAbs z) × (natAbs z ≡ epochByte z)
-unfolding epochByte
-counted-byte (pos n) f h = (tt, record { fits = omega (arith, f .sfits) }, refl)
-counted-byte (negsuc n) f h = absurd (true-false h)

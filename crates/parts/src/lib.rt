@@ -201,6 +201,7 @@ impl Leader {
             Leader::Broker(b) => is_member(isr, b),
         }
     }
+
     // The byte of a leader: none is 255.
     pub fn byte(self) -> u8
         ensures { λ r. ⌜ r ≡ leaderByte self ⌝ }

@@ -1,9 +1,13 @@
-use Prim.Native.Nat.{_-_}
 use mathlib.Core.Path.{sym, _∙_}
 use borrow.Author.Needs.{needs}
 use Rattle.images.specs.ReadLaws.{read-refused, read-accepted}
+use Rattle.images.specs.PartLaws.{Bytes}
 use Rattle.images.proofs.read_image.Statement.{statement}
 use Rattle.images.proofs.read_image.Tie as tie
+
+-- the numbers of a slice are bytes, so the theorems on bytes that are read speak of every slice that this function takes
+pub slice-bytes : (c : tie.After-shared-slice-known) → Bytes (c .before .args .bytes .now)
+slice-bytes c = record { byte = λ i. c .shared-slice-known .given i .fits }
 
 header-refusal-requires : tie.Need-header-refusal-requires
 header-refusal-requires c κs = search needs

@@ -1,4 +1,4 @@
-use Prim.Native.Nat.{ℕ, _-_}
+use Prim.Native.Nat.{ℕ}
 use mathlib.Core.Path.{_≡_, sym, _∙_, ap}
 use mathlib.Core.Bool.{not}
 use lib.Dec.{ltb}
@@ -66,21 +66,23 @@ shared-slice-read-sizes-in-range-2 c = search needs
 sizes-in-range-requires : tie.Need-sizes-in-range-requires
 sizes-in-range-requires c κs = search needs
 
+-- what the test of S1 answered
+sizes : (z : tie.After-sizes-in-range)
+    → rule1 (limitsOf (z .before .before .before .before .before .before .before .before .before .before .args .bytes .now))
+    (byteAt (z .before .before .before .before .before .before .before .before .before .before .args .bytes .now) 6)
+    (byteAt (z .before .before .before .before .before .before .before .before .before .before .args .bytes .now) 7)
+    ≡ z .sizes-in-range .result
+sizes z =
+    let bs = z .before .before .before .before .before .before .before .before .before .before .args .bytes .now in
+    ap (λ (l : Limits). rule1 l (byteAt bs 6) (byteAt bs 7)) (sym (z .before .before .before .before .before .limits-of .ensures)) ∙ sym (z .sizes-in-range .ensures)
+
 returns-4 : tie.Need-returns-4
 unfolding headerRefusal
-returns-4 c =
-    let bs = c .before .before .before .before .before .before .before .before .before .before .before .args .bytes .now in
-    let e : rule1 (limitsOf bs) (byteAt bs 6) (byteAt bs 7) ≡ c .before .sizes-in-range .result =
-    ap (λ (l : Limits). rule1 l (byteAt bs 6) (byteAt bs 7)) (sym (c .before .before .before .before .before .before .limits-of .ensures)) ∙ sym (c .before .sizes-in-range .ensures) in
-    refuse-yes _ _ _ (ap not (e ∙ not-true _ (c .if4 .taken))) ∙ range (c .before .before .before .before) _
+returns-4 c = refuse-yes _ _ _ (ap not (sizes (c .before) ∙ not-true _ (c .if4 .taken))) ∙ range (c .before .before .before .before) _
 
 returns-5 : tie.Need-returns-5
 unfolding headerRefusal
-returns-5 c =
-    let bs = c .before .before .before .before .before .before .before .before .before .before .before .args .bytes .now in
-    let e : rule1 (limitsOf bs) (byteAt bs 6) (byteAt bs 7) ≡ c .before .sizes-in-range .result =
-    ap (λ (l : Limits). rule1 l (byteAt bs 6) (byteAt bs 7)) (sym (c .before .before .before .before .before .before .limits-of .ensures)) ∙ sym (c .before .sizes-in-range .ensures) in
-    refuse-no _ brokenState _ (ap not (e ∙ not-false _ (c .if4 .left))) ∙ range (c .before .before .before .before) _
+returns-5 c = refuse-no _ brokenState _ (ap not (sizes (c .before) ∙ not-false _ (c .if4 .left))) ∙ range (c .before .before .before .before) _
 
 pub header-refusal-spec : {M : Type 1} → statement M
 header-refusal-spec =

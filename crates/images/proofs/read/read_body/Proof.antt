@@ -1,4 +1,3 @@
-use Prim.Native.Nat.{_-_}
 use mathlib.Core.Path.{sym, _∙_, ap}
 use native.Mathlib.Omega.{arith}
 use lib.ListN.{drop}
@@ -14,9 +13,8 @@ header c = header-in-range (c .args .bytes .now) (c .pre)
 
 header-state-requires : tie.Need-header-state-requires
 header-state-requires c κs =
-    let bs = c .before .args .bytes .now in
-    let h = header-in-range bs (c .before .pre) in
-    let z = header-sizes bs h in
+    let h = header (c .before) in
+    let z = header-sizes _ h in
     (h .long, omega (arith, z .epochs, z .ranges .epochs))
 
 read-requests-requires : tie.Need-read-requests-requires

@@ -1,4 +1,3 @@
-use Prim.Native.Nat.{_-_}
 use borrow.Author.Needs.{needs}
 use Rattle.images.proofs.read.refused.Statement.{statement}
 use Rattle.images.proofs.read.refused.Tie as tie

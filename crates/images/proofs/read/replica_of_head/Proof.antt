@@ -1,4 +1,4 @@
-use Prim.Native.Nat.{_+_, _-_}
+use Prim.Native.Nat.{_+_}
 use borrow.Author.Needs.{needs}
 use Rattle.parts.specs.ByteLaws.{epoch-kept}
 use Rattle.images.specs.ReadLaws.{byte-at, first-byte}

@@ -1,4 +1,3 @@
-use Prim.Native.Nat.{_-_}
 use borrow.Author.Needs.{needs}
 use Rattle.images.specs.ReadLaws.{byte-at, first-byte}
 use Rattle.images.proofs.read.request_of.Statement.{statement}

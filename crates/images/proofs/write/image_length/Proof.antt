@@ -1,7 +1,6 @@
-use Prim.Native.Nat.{_-_}
 use native.Mathlib.Omega.{arith}
 use borrow.Author.Needs.{needs}
-use Rattle.cluster.specs.Predicates.{rules-bounded, rules-logs-bounded}
+use Rattle.cluster.specs.RuleLaws.{rules-bounded, rules-logs-bounded}
 use Rattle.images.specs.ImageLaws.{image-length, image-most}
 use Rattle.images.proofs.write.image_length.Statement.{statement}
 use Rattle.images.proofs.write.image_length.Tie as tie

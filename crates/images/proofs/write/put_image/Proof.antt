@@ -1,8 +1,7 @@
-use Prim.Native.Nat.{_-_}
 use native.Mathlib.Omega.{arith}
 use lib.ListN.{length-append}
 use Rattle.logic.specs.Stores.{stored-length, stored-more}
-use Rattle.cluster.specs.Predicates.{rules-bounded, rules-logs-bounded}
+use Rattle.cluster.specs.RuleLaws.{rules-bounded, rules-logs-bounded}
 use Rattle.images.specs.Image.{image, requestsBytes, replicasBytes}
 use Rattle.images.proofs.write.put_image.Statement.{statement}
 use Rattle.images.proofs.write.put_image.Tie as tie

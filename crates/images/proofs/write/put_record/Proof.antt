@@ -4,8 +4,8 @@ use lib.ListN.{length-set}
 use mir.Syntax.{w8}
 use mir.Facts.{toZ-ofZ}
 use borrow.Author.Needs.{needs}
-use Rattle.logic.specs.Stores.{stored-2}
 use Rattle.parts.specs.Epoch.{epochByte}
+use Rattle.images.specs.WriteLaws.{stored-2}
 use Rattle.images.proofs.write.put_record.Statement.{statement}
 use Rattle.images.proofs.write.put_record.Tie as tie
 

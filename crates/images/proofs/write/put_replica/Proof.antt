@@ -1,13 +1,13 @@
-use Prim.Native.Nat.{_-_}
 use mathlib.Core.Path.{_≡_, _∙_, ap}
 use native.Mathlib.Omega.{arith}
 use lib.ListN.{length-set}
 use mir.Syntax.{w8}
 use mir.Facts.{toZ-ofZ}
 use borrow.Author.Needs.{needs}
-use Rattle.logic.specs.Stores.{stored-length, stored-more, stored-5}
+use Rattle.logic.specs.Stores.{stored-length, stored-more}
 use Rattle.parts.specs.Epoch.{epochByte}
 use Rattle.parts.specs.Leader.{leaderByte}
+use Rattle.images.specs.WriteLaws.{stored-5}
 use Rattle.images.specs.Image.{replicaBytes}
 use Rattle.images.proofs.write.put_replica.Statement.{statement}
 use Rattle.images.proofs.write.put_replica.Tie as tie

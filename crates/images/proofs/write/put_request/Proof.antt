@@ -1,9 +1,8 @@
-use Prim.Native.Nat.{_-_}
 use native.Mathlib.Omega.{arith}
 use lib.ListN.{length-set}
 use borrow.Author.Needs.{needs}
-use Rattle.logic.specs.Stores.{stored-2}
 use Rattle.parts.specs.Leader.{leaderByte}
+use Rattle.images.specs.WriteLaws.{stored-2}
 use Rattle.images.proofs.write.put_request.Statement.{statement}
 use Rattle.images.proofs.write.put_request.Tie as tie
 
