@@ -1,4 +1,5 @@
-// A digest of bytes, and of a state laid out flat in 226 bytes, unused room too.
+// A digest of bytes, and of a state laid out flat in 226 bytes, unused room too. The caller of each function that answers byte k
+// of a part shows that the part has it.
 ghost use Prim.Native.Nat.{_<_};
 use cluster::State;
 use parts::Leader;

@@ -1,4 +1,4 @@
--- How long an image is: 10 bytes, 2 for each request, and 5 for each replica with 2 for each of its records. Assumes nothing.
+-- How long an image is: the first part, its requests, and its replicas with their records, each by its width. Assumes nothing.
 use Prim.Native.Nat.{ℕ, _+_, _*_, _≤_}
 use mathlib.Core.Path.{_≡_, refl, sym, ap}
 use mathlib.Core.Bool.{true}
@@ -10,22 +10,22 @@ use Rattle.cluster.specs.declared.State.{State}
 use Rattle.cluster.specs.State.{replicaCount, nextLeaderEpoch, replicaAt}
 use Rattle.cluster.specs.Rules.{rules, LogsBounded}
 use Rattle.cluster.specs.RuleLaws.{rules-bounded, rules-logs-bounded}
-use Rattle.images.specs.Image.{recordBytesAt, logBytes, requestBytesAt, requestsBytes, replicaBytes, replicaBytesAt, replicasBytes, image}
+use Rattle.images.specs.Image.{recordBytesAt, logBytes, requestBytesAt, requestsBytes, replicaBytes, replicaBytesAt, replicasBytes, image, headerWidth, requestWidth, replicaWidth, recordWidth}
 
 -- ---- lengths
-log-length : (p : Replica) → length (logBytes p) ≡ p .end * 2
+log-length : (p : Replica) → length (logBytes p) ≡ p .end * recordWidth
 unfolding logBytes
-log-length p = concat-width 2 (p .end) (recordBytesAt p) (λ x l. refl)
+log-length p = concat-width recordWidth (p .end) (recordBytesAt p) (λ x l. refl)
 
-pub replica-length : (p : Replica) → length (replicaBytes p) ≡ 5 + 2 * p .end
+pub replica-length : (p : Replica) → length (replicaBytes p) ≡ replicaWidth + recordWidth * p .end
 unfolding replicaBytes
 replica-length p = let e = log-length p in omega arith
 
-pub requests-length : (s : State) → length (requestsBytes s) ≡ 2 * nextLeaderEpoch s
+pub requests-length : (s : State) → length (requestsBytes s) ≡ requestWidth * nextLeaderEpoch s
 unfolding requestsBytes
-requests-length s = let e = concat-width 2 (nextLeaderEpoch s) (requestBytesAt s) (λ e l. refl) in omega arith
+requests-length s = let e = concat-width requestWidth (nextLeaderEpoch s) (requestBytesAt s) (λ e l. refl) in omega arith
 
-pub image-length : (s : State) → length (image s) ≡ 10 + 2 * nextLeaderEpoch s + length (replicasBytes s)
+pub image-length : (s : State) → length (image s) ≡ headerWidth + requestWidth * nextLeaderEpoch s + length (replicasBytes s)
 unfolding image
 image-length s = let e = requests-length s in let k = length-append (requestsBytes s) (replicasBytes s) in omega arith
 
@@ -34,7 +34,7 @@ pub replicas-start : (s : State) → 0 ≡ length (concatBelow 0 (replicaBytesAt
 replicas-start s = ap length (sym (concat-none (replicaBytesAt s)))
 
 pub replicas-more : (s : State) (i sum : ℕ) → sum ≡ length (concatBelow i (replicaBytesAt s))
-    → sum + 5 + 2 * replicaAt s i .end ≡ length (concatBelow (i + 1) (replicaBytesAt s))
+    → sum + replicaWidth + recordWidth * replicaAt s i .end ≡ length (concatBelow (i + 1) (replicaBytesAt s))
 replicas-more s i sum h =
     let e = replica-length (replicaAt s i) in
     let k = length-append (concatBelow i (replicaBytesAt s)) (replicaBytesAt s i) in

@@ -22,7 +22,7 @@ use Rattle.cluster.specs.Equality.{same-sym, tidy-same, same-iff-tidy}
 use Rattle.cluster.specs.Unused.{rules-same}
 use Rattle.cluster.specs.Fresh.{answer}
 use Rattle.cluster.specs.RuleLaws.{rules-bounded, rules-logs-bounded}
-use Rattle.images.specs.Image.{requestBytes, requestBytesAt, requestsBytes, recordBytes, recordBytesAt, logBytes, replicaHead, replicaBytes, replicaBytesAt, replicasBytes, headerBytes, image, writeImage, bufferAfter}
+use Rattle.images.specs.Image.{requestBytes, requestBytesAt, requestsBytes, recordBytes, recordBytesAt, logBytes, replicaHead, replicaBytes, replicaBytesAt, replicasBytes, headerBytes, image, writeImage, bufferAfter, headerWidth}
 use Rattle.images.specs.declared.Written.{Written}
 use Rattle.images.specs.WriteLaws.{Writes, writes-broken, writes-short, writes-all}
 use Rattle.images.specs.Read.{Parsed, missing, endAbove, parsed, finished, readBody, readBy, readImage, headerRefusal, andThen, readRequests, readReplicas, headerState, refused}
@@ -128,5 +128,5 @@ unfolding readImage readBody readBy
 read-refused-zero bs h = go (headerRefusal bs) refl
   where
     go : (n : ℕ) → headerRefusal bs ≡ n → readBy n bs .state ≡ zeroState
-    go zero e = finished-zero (andThen (readRequests (headerState bs) (drop 10 bs)) readReplicas) (λ z. h (ap (λ (n : ℕ). readBy n bs .refusal) e ∙ z))
+    go zero e = finished-zero (andThen (readRequests (headerState bs) (drop headerWidth bs)) readReplicas) (λ z. h (ap (λ (n : ℕ). readBy n bs .refusal) e ∙ z))
     go (suc n) e = refl

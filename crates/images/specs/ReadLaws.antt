@@ -23,6 +23,7 @@ use Rattle.cluster.specs.State.{logSize, nextLeaderEpoch, withRequests}
 use Rattle.cluster.specs.Rules.{inRange, rule1, rules, Bounded}
 use Rattle.cluster.specs.RuleLaws.{Sizes, sizes-of, bounded-of}
 use Rattle.cluster.specs.Fresh.{answer}
+use Rattle.images.specs.Image.{headerWidth, replicaWidth}
 use Rattle.images.specs.Read.{Parsed, missing, endAbove, parsed, refusalOf, andThen, part, fill, fillIn, byteAt, readRequest, replicaOfHead, readRequests, headerState, readLog, readLogWithin, readReplica, limitsOf, marked, headerRefusal, refused, finished, readBody, readBy, readImage}
 
 -- ---- the arrays that the parts are stored in
@@ -98,7 +99,7 @@ module _ {A B : Type 0} (put : List A → B) (get : B → List A) (read : List �
     pub held : b ≡ put (get b)
 
   pub filling-start : (n : ℕ) (b : B) → at ≤ length bs → get b ≡ array → b ≡ put (get b) → Filling n 0 at b
-  unfolding fill andThen
+  unfolding fill
   filling-start n b h e k = record { turns = omega arith; within = h; read-so-far = ap (λ (l : List A). parsed l (drop at bs)) (sym e); held = k }
 
   -- one part more
@@ -116,7 +117,7 @@ module _ {A B : Type 0} (put : List A → B) (get : B → List A) (read : List �
   -- a part is refused, and so are all of them
   fill-stops : (n i : ℕ) (l : List A) (rest : List ℕ) → i < n → fill read i array (drop at bs) ≡ parsed l rest → (refusalOf (read rest) ≡ accepted → ⊥)
       → refusalOf (fill read n array (drop at bs)) ≡ refusalOf (read rest)
-  unfolding fill andThen
+  unfolding fill
   fill-stops zero i l rest h e k = absurd (omega arith)
   fill-stops (suc n) i l rest h e k =
       elim (ℕ-discrete i n) [
@@ -183,19 +184,19 @@ then-read m next bs number at x rest value h r = rw (then-parsed m next x rest h
 -- ---- the first ten bytes
 -- what they say where they are not refused
 pub record HeaderInRange (bs : List ℕ) : Type 0 where
-  pub long : 10 ≤ length bs
+  pub long : headerWidth ≤ length bs
   pub mark : marked bs ≡ true
   pub sizes : rule1 (limitsOf bs) (byteAt bs 6) (byteAt bs 7) ≡ true
 
 pub header-in-range : (bs : List ℕ) → headerRefusal bs ≡ accepted → HeaderInRange bs
 unfolding headerRefusal
 header-in-range bs h =
-    let a = refuse-zero (ltb (length bs) 10) 20 _ h in
+    let a = refuse-zero (ltb (length bs) headerWidth) 20 _ h in
     let b = refuse-zero (not (marked bs)) 19 _ (a .1) in
     let c = refuse-zero (not (inRange (limitsOf bs))) 21 _ (b .1) in
     let d = refuse-zero (not (rule1 (limitsOf bs) (byteAt bs 6) (byteAt bs 7))) 0 _ (c .1) in
     record {
-      long = ltb-false (length bs) 10 (a .0);
+      long = ltb-false (length bs) headerWidth (a .0);
       mark = not-false (marked bs) (b .0);
       sizes = not-false (rule1 (limitsOf bs) (byteAt bs 6) (byteAt bs 7)) (d .0);
     }
@@ -222,32 +223,32 @@ requests-room s t bs rest h r =
 
 -- ---- a replica: its first five bytes, its end, its log
 module _ (l : ℕ) (bs : List ℕ) (at : ℕ) where
-  pub replica-missing : (v : Replica) → at ≤ length bs → length bs - at < 5 → ReadAs (readReplica l (drop at bs)) bs tooShort at v
+  pub replica-missing : (v : Replica) → at ≤ length bs → length bs - at < replicaWidth → ReadAs (readReplica l (drop at bs)) bs tooShort at v
   unfolding readReplica refusalOf
   replica-missing v h k =
-      let e : part 5 replicaOfHead (drop at bs) ≡ missing = part-missing 5 replicaOfHead bs at k in
+      let e : part replicaWidth replicaOfHead (drop at bs) ≡ missing = part-missing replicaWidth replicaOfHead bs at k in
       record {
-        refusal = sym (then-stops (part 5 replicaOfHead (drop at bs)) (readLogWithin l) (λ z. omega (arith, sym (ap refusalOf e) ∙ z)) ∙ ap refusalOf e);
+        refusal = sym (then-stops (part replicaWidth replicaOfHead (drop at bs)) (readLogWithin l) (λ z. omega (arith, sym (ap refusalOf e) ∙ z)) ∙ ap refusalOf e);
         within = h;
         given = λ z. absurd (omega arith);
       }
 
-  pub replica-above : (p v : Replica) → at + 5 ≤ length bs → p ≡ replicaOfHead (drop at bs) → l < p .end → ReadAs (readReplica l (drop at bs)) bs brokenState at v
+  pub replica-above : (p v : Replica) → at + replicaWidth ≤ length bs → p ≡ replicaOfHead (drop at bs) → l < p .end → ReadAs (readReplica l (drop at bs)) bs brokenState at v
   unfolding readReplica readLogWithin refusalOf
   replica-above p v h e k =
       let q : readReplica l (drop at bs) ≡ endAbove =
-      then-parsed (part 5 replicaOfHead (drop at bs)) (readLogWithin l) p (drop (at + 5) bs)
-      (part-read 5 replicaOfHead bs at h ∙ ap (λ (v : Replica). parsed v (drop (at + 5) bs)) (sym e))
-      ∙ cond-false (leb (p .end) l) (readLog p (drop (at + 5) bs)) endAbove (lt-leb (p .end) l k) in
+      then-parsed (part replicaWidth replicaOfHead (drop at bs)) (readLogWithin l) p (drop (at + replicaWidth) bs)
+      (part-read replicaWidth replicaOfHead bs at h ∙ ap (λ (v : Replica). parsed v (drop (at + replicaWidth) bs)) (sym e))
+      ∙ cond-false (leb (p .end) l) (readLog p (drop (at + replicaWidth) bs)) endAbove (lt-leb (p .end) l k) in
       record { refusal = ap refusalOf (sym q); within = omega arith; given = λ z. absurd (omega arith) }
 
-  pub replica-read : (p v : Replica) (number pos : ℕ) → at + 5 ≤ length bs → p ≡ replicaOfHead (drop at bs) → p .end ≤ l
-      → ReadAs (readLog p (drop (at + 5) bs)) bs number pos v → ReadAs (readReplica l (drop at bs)) bs number pos v
+  pub replica-read : (p v : Replica) (number pos : ℕ) → at + replicaWidth ≤ length bs → p ≡ replicaOfHead (drop at bs) → p .end ≤ l
+      → ReadAs (readLog p (drop (at + replicaWidth) bs)) bs number pos v → ReadAs (readReplica l (drop at bs)) bs number pos v
   unfolding readReplica readLogWithin
   replica-read p v number pos h e k r =
-      then-read (part 5 replicaOfHead (drop at bs)) (readLogWithin l) bs number pos p (drop (at + 5) bs) v
-      (part-read 5 replicaOfHead bs at h ∙ ap (λ (v : Replica). parsed v (drop (at + 5) bs)) (sym e))
-      (rw (cond-true (leb (p .end) l) (readLog p (drop (at + 5) bs)) endAbove (le-leb (p .end) l k)) r)
+      then-read (part replicaWidth replicaOfHead (drop at bs)) (readLogWithin l) bs number pos p (drop (at + replicaWidth) bs) v
+      (part-read replicaWidth replicaOfHead bs at h ∙ ap (λ (v : Replica). parsed v (drop (at + replicaWidth) bs)) (sym e))
+      (rw (cond-true (leb (p .end) l) (readLog p (drop (at + replicaWidth) bs)) endAbove (le-leb (p .end) l k)) r)
 
 -- ---- the ways out: what was read up to there decides
 finished-by : (m : Parsed State) → (refusalOf m ≡ accepted → ⊥) → refused (refusalOf m) ≡ finished m

@@ -33,7 +33,7 @@ use Rattle.cluster.specs.RuleLaws.{rules-bounded}
 use Rattle.cluster.specs.Predicates.{Named, MatchesRequest, rules-iff}
 use Rattle.cluster.specs.Unused.{rules-tidy}
 use Rattle.cluster.specs.Fresh.{answer}
-use Rattle.images.specs.Image.{markFirst, markSecond, recordBytes, recordBytesAt, logBytes, requestBytes, requestBytesAt, requestsBytes, replicaHead, replicaBytes, replicaBytesAt, replicasBytes, headerBytes, image}
+use Rattle.images.specs.Image.{markFirst, markSecond, recordBytes, recordBytesAt, logBytes, requestBytes, requestBytesAt, requestsBytes, replicaHead, replicaBytes, replicaBytesAt, replicasBytes, headerBytes, image, headerWidth, requestWidth, replicaWidth, recordWidth}
 use Rattle.images.specs.ImageLaws.{image-length}
 use Rattle.images.specs.Read.{Parsed, missing, endAbove, parsed, andThen, part, fill, fillIn, byteAt, recordOf, readRecord, requestOf, readRequest, replicaOfHead, readLog, readLogWithin, readReplica, readRequests, readReplicas, headerState, marked, headerRefusal, refused, finished, readBody, readBy, readImage, refusalOf}
 use Rattle.images.specs.ReadLaws.{part-back, then-parsed, then-from, parsed-value, parsed-rest, HeaderInRange, header-in-range, header-sizes}
@@ -42,12 +42,12 @@ use Rattle.images.specs.PartLaws.{Bytes, bytes-none, bytes-more, bytes-a
 -- ---- written, and read back
 record-back : (r : Record) (rest : List ℕ) → mag (r .epoch) < 128 → readRecord (recordBytes r ++ rest) ≡ parsed r rest
 record-back r rest h =
-    part-back 2 recordOf (recordBytes r ++ rest) (omega arith)
+    part-back recordWidth recordOf (recordBytes r ++ rest) (omega arith)
     ∙ ap (λ (z : ℤ). parsed (record { id = r .id; epoch = z }) rest) (epoch-back (r .epoch) h)
 
 request-back : (q : Request) (rest : List ℕ) → ((b : ℕ) → q .leader ≡ Broker b → b < 255) → readRequest (requestBytes q ++ rest) ≡ parsed q rest
 request-back q rest h =
-    part-back 2 requestOf (requestBytes q ++ rest) (omega arith)
+    part-back requestWidth requestOf (requestBytes q ++ rest) (omega arith)
     ∙ ap (λ (l : Leader). parsed (record { leader = l; isr = q .isr }) rest) (leader-back (q .leader) h)
 
 -- what the rules say of a replica that its bytes rely on
@@ -69,16 +69,16 @@ log-back l p rest w =
     (λ x k left. record-back (recordAt p x) left (w .log x k)) rest)
 
 head-back : (p : Replica) (rest : List ℕ) → mag (p .epoch) < 128 → ((b : ℕ) → p .leader ≡ Broker b → b < 255)
-    → part 5 replicaOfHead (replicaHead p ++ rest) ≡ parsed (withLog p (replicate 16 zeroRecord)) rest
+    → part replicaWidth replicaOfHead (replicaHead p ++ rest) ≡ parsed (withLog p (replicate 16 zeroRecord)) rest
 head-back p rest h k =
-    part-back 5 replicaOfHead (replicaHead p ++ rest) (omega arith)
+    part-back replicaWidth replicaOfHead (replicaHead p ++ rest) (omega arith)
     ∙ ap (λ (z : ℤ). parsed (replicaOf (p .hw) z (leaderOfByte (leaderByte (p .leader))) (p .isr) (p .end) (replicate 16 zeroRecord)) rest) (epoch-back (p .epoch) h)
     ∙ ap (λ (l : Leader). parsed (replicaOf (p .hw) (p .epoch) l (p .isr) (p .end) (replicate 16 zeroRecord)) rest) (leader-back (p .leader) k)
 
 replica-back : (l : ℕ) (p : Replica) (rest : List ℕ) → Writable l p → readReplica l (replicaBytes p ++ rest) ≡ parsed (tidyReplica p) rest
 unfolding readReplica readLogWithin replicaBytes
 replica-back l p rest w =
-    then-parsed (part 5 replicaOfHead (replicaHead p ++ (logBytes p ++ rest))) (readLogWithin l) (withLog p (replicate 16 zeroRecord)) (logBytes p ++ rest)
+    then-parsed (part replicaWidth replicaOfHead (replicaHead p ++ (logBytes p ++ rest))) (readLogWithin l) (withLog p (replicate 16 zeroRecord)) (logBytes p ++ rest)
     (head-back p (logBytes p ++ rest) (w .epoch) (w .leader))
     ∙ cond-true (leb (p .end) l) (readLog (withLog p (replicate 16 zeroRecord)) (logBytes p ++ rest)) endAbove (le-leb (p .end) l (w .end))
     ∙ log-back l p rest w
@@ -121,8 +121,8 @@ unfolding leaderByte
 leader-byte-small None h = omega arith
 leader-byte-small (Broker b) h = omega (arith, h b refl)
 
-isr-small : (n isr : ℕ) → n ≤ 5 → isr < 2 ^ n → isr < 256
-isr-small n isr h k = omega (arith, below-32 n isr h k)
+isr-byte-small : (n isr : ℕ) → n ≤ 5 → isr < 2 ^ n → isr < 256
+isr-byte-small n isr h k = omega (arith, below-32 n isr h k)
 
 replica-bytes : (s : State) → rules s ≡ true → (i : ℕ) → i < replicaCount (s .limits) → Bytes (replicaBytesAt s i)
 unfolding replicaBytes logBytes
@@ -135,7 +135,7 @@ replica-bytes s h i k =
     (bytes-more _ _ (omega (arith, r .s5 i k .hw, w .end, w .room))
     (bytes-more _ _ (epoch-byte-small (p .epoch) (w .epoch))
     (bytes-more _ _ (leader-byte-small (p .leader) (w .leader))
-    (bytes-more _ _ (isr-small (replicaCount (s .limits)) (p .isr) (r .s1 .ranges .replicas) (m .within))
+    (bytes-more _ _ (isr-byte-small (replicaCount (s .limits)) (p .isr) (r .s1 .ranges .replicas) (m .within))
     (bytes-more _ _ (omega (arith, w .end, w .room)) bytes-none)))))
     (bytes-concat (p .end) (recordBytesAt p)
     (λ x l.
@@ -150,7 +150,7 @@ image-bytes s h =
     let leader : (l : Leader) (isr : ℕ) → Named (replicaCount (s .limits)) l isr → leaderByte l < 256 =
     (λ l isr m. leader-byte-small l (named-small (replicaCount (s .limits)) l isr (b .replicas) m)) in
     let isr : (l : Leader) (isr : ℕ) → Named (replicaCount (s .limits)) l isr → isr < 256 =
-    (λ l isr m. isr-small (replicaCount (s .limits)) isr (b .replicas) (m .within)) in
+    (λ l isr m. isr-byte-small (replicaCount (s .limits)) isr (b .replicas) (m .within)) in
     bytes-append (headerBytes s) (requestsBytes s ++ replicasBytes s)
     (bytes-more _ _ (omega arith)
     (bytes-more _ _ (omega arith)
@@ -189,7 +189,7 @@ unfolding headerRefusal image marked rules rule1
 header-accepted s h =
     let tests = every-at (ruleTests s) h in
     let range : inRange (s .limits) ≡ true = every-at (rule1Tests (s .limits) (nextLeaderEpoch s) (nextRecordId s)) (tests 0) 0 in
-    refuse-none (ltb (length (image s)) 10) tooShort _ (le-ltb (length (image s)) 10 (omega (arith, image-length s)))
+    refuse-none (ltb (length (image s)) headerWidth) tooShort _ (le-ltb (length (image s)) headerWidth (omega (arith, image-length s)))
     (refuse-none (not (marked (image s))) wrongMark _ refl
     (refuse-none (not (inRange (s .limits))) badConfiguration _ (ap not range)
     (refuse-none (not (rule1 (s .limits) (nextLeaderEpoch s) (nextRecordId s))) brokenState accepted (ap not (tests 0)) refl)))
@@ -234,29 +234,29 @@ read-back s h =
 record-faithful : Faithful readRecord recordBytes
 unfolding table tableFrom
 record-faithful bs rest x b h =
-    let p = part-read-back 2 recordOf bs rest x h in
-    front 2 bs (p .long)
-    ∙ ap (λ (e : ℕ). byteAt bs 0 ∷ e ∷ drop 2 bs) (sym (epoch-byte-back (byteAt bs 1) (b .byte 1)))
-    ∙ ap (λ (r : Record). recordBytes r ++ drop 2 bs) (p .said)
+    let p = part-read-back recordWidth recordOf bs rest x h in
+    front recordWidth bs (p .long)
+    ∙ ap (λ (e : ℕ). byteAt bs 0 ∷ e ∷ drop recordWidth bs) (sym (epoch-byte-back (byteAt bs 1) (b .byte 1)))
+    ∙ ap (λ (r : Record). recordBytes r ++ drop recordWidth bs) (p .said)
     ∙ ap (λ (l : List ℕ). recordBytes x ++ l) (p .left)
 
 request-faithful : Faithful readRequest requestBytes
 unfolding table tableFrom
 request-faithful bs rest x b h =
-    let p = part-read-back 2 requestOf bs rest x h in
-    front 2 bs (p .long)
-    ∙ ap (λ (l : ℕ). l ∷ byteAt bs 1 ∷ drop 2 bs) (sym (leader-byte-back (byteAt bs 0)))
-    ∙ ap (λ (q : Request). requestBytes q ++ drop 2 bs) (p .said)
+    let p = part-read-back requestWidth requestOf bs rest x h in
+    front requestWidth bs (p .long)
+    ∙ ap (λ (l : ℕ). l ∷ byteAt bs 1 ∷ drop requestWidth bs) (sym (leader-byte-back (byteAt bs 0)))
+    ∙ ap (λ (q : Request). requestBytes q ++ drop requestWidth bs) (p .said)
     ∙ ap (λ (l : List ℕ). requestBytes x ++ l) (p .left)
 
-head-faithful : Faithful (part 5 replicaOfHead) replicaHead
+head-faithful : Faithful (part replicaWidth replicaOfHead) replicaHead
 unfolding table tableFrom
 head-faithful bs rest x b h =
-    let p = part-read-back 5 replicaOfHead bs rest x h in
-    front 5 bs (p .long)
-    ∙ ap (λ (e : ℕ). byteAt bs 0 ∷ e ∷ byteAt bs 2 ∷ byteAt bs 3 ∷ byteAt bs 4 ∷ drop 5 bs) (sym (epoch-byte-back (byteAt bs 1) (b .byte 1)))
-    ∙ ap (λ (l : ℕ). byteAt bs 0 ∷ epochByte (epochOfByte (byteAt bs 1)) ∷ l ∷ byteAt bs 3 ∷ byteAt bs 4 ∷ drop 5 bs) (sym (leader-byte-back (byteAt bs 2)))
-    ∙ ap (λ (p : Replica). replicaHead p ++ drop 5 bs) (p .said)
+    let p = part-read-back replicaWidth replicaOfHead bs rest x h in
+    front replicaWidth bs (p .long)
+    ∙ ap (λ (e : ℕ). byteAt bs 0 ∷ e ∷ byteAt bs 2 ∷ byteAt bs 3 ∷ byteAt bs 4 ∷ drop replicaWidth bs) (sym (epoch-byte-back (byteAt bs 1) (b .byte 1)))
+    ∙ ap (λ (l : ℕ). byteAt bs 0 ∷ epochByte (epochOfByte (byteAt bs 1)) ∷ l ∷ byteAt bs 3 ∷ byteAt bs 4 ∷ drop replicaWidth bs) (sym (leader-byte-back (byteAt bs 2)))
+    ∙ ap (λ (p : Replica). replicaHead p ++ drop replicaWidth bs) (p .said)
     ∙ ap (λ (l : List ℕ). replicaHead x ++ l) (p .left)
 
 -- the log of a replica whose array has 16 places
@@ -283,8 +283,8 @@ within-faithful l p x bs rest h k b = go (leb (p .end) l) refl
 replica-faithful : (l : ℕ) → l ≤ 16 → Faithful (readReplica l) replicaBytes
 unfolding readReplica replicaBytes
 replica-faithful l h bs rest x b e =
-    let f = then-from (part 5 replicaOfHead bs) (readLogWithin l) x rest e in
-    let p = part-read-back 5 replicaOfHead bs (f .1) (f .0) (f .2) in
+    let f = then-from (part replicaWidth replicaOfHead bs) (readLogWithin l) x rest e in
+    let p = part-read-back replicaWidth replicaOfHead bs (f .1) (f .0) (f .2) in
     let first : bs ≡ replicaHead (f .0) ++ f .1 = head-faithful bs (f .1) (f .0) b (f .2) in
     let room : length (f .0 .log) ≡ 16 = ap (λ (q : Replica). length (q .log)) (sym (p .said)) in
     let w = within-faithful l (f .0) x (f .1) rest h room (bytes-behind (replicaHead (f .0)) (f .1) (rw first at b)) (f .3) in
@@ -317,15 +317,15 @@ replicas-faithful s t bs rest h m k b e =
     )
 
 -- the first ten bytes
-header-faithful : (bs : List ℕ) → HeaderInRange bs → bs ≡ headerBytes (headerState bs) ++ drop 10 bs
+header-faithful : (bs : List ℕ) → HeaderInRange bs → bs ≡ headerBytes (headerState bs) ++ drop headerWidth bs
 unfolding headerState marked table tableFrom
 header-faithful bs h =
     let m0 : byteAt bs 0 ≡ markFirst = eqb-true (byteAt bs 0) markFirst (and-left (eqb (byteAt bs 0) markFirst) (eqb (byteAt bs 1) markSecond) (h .mark)) in
     let m1 : byteAt bs 1 ≡ markSecond = eqb-true (byteAt bs 1) markSecond (and-right (eqb (byteAt bs 0) markFirst) (eqb (byteAt bs 1) markSecond) (h .mark)) in
-    front 10 bs (h .long)
-    ∙ ap (λ (m : ℕ). m ∷ byteAt bs 1 ∷ byteAt bs 2 ∷ byteAt bs 3 ∷ byteAt bs 4 ∷ byteAt bs 5 ∷ byteAt bs 6 ∷ byteAt bs 7 ∷ byteAt bs 8 ∷ byteAt bs 9 ∷ drop 10 bs) m0
-    ∙ ap (λ (m : ℕ). markFirst ∷ m ∷ byteAt bs 2 ∷ byteAt bs 3 ∷ byteAt bs 4 ∷ byteAt bs 5 ∷ byteAt bs 6 ∷ byteAt bs 7 ∷ byteAt bs 8 ∷ byteAt bs 9 ∷ drop 10 bs) m1
-    ∙ ap (λ (l : ℕ). markFirst ∷ markSecond ∷ byteAt bs 2 ∷ byteAt bs 3 ∷ byteAt bs 4 ∷ byteAt bs 5 ∷ byteAt bs 6 ∷ byteAt bs 7 ∷ l ∷ byteAt bs 9 ∷ drop 10 bs)
+    front headerWidth bs (h .long)
+    ∙ ap (λ (m : ℕ). m ∷ byteAt bs 1 ∷ byteAt bs 2 ∷ byteAt bs 3 ∷ byteAt bs 4 ∷ byteAt bs 5 ∷ byteAt bs 6 ∷ byteAt bs 7 ∷ byteAt bs 8 ∷ byteAt bs 9 ∷ drop headerWidth bs) m0
+    ∙ ap (λ (m : ℕ). markFirst ∷ m ∷ byteAt bs 2 ∷ byteAt bs 3 ∷ byteAt bs 4 ∷ byteAt bs 5 ∷ byteAt bs 6 ∷ byteAt bs 7 ∷ byteAt bs 8 ∷ byteAt bs 9 ∷ drop headerWidth bs) m1
+    ∙ ap (λ (l : ℕ). markFirst ∷ markSecond ∷ byteAt bs 2 ∷ byteAt bs 3 ∷ byteAt bs 4 ∷ byteAt bs 5 ∷ byteAt bs 6 ∷ byteAt bs 7 ∷ l ∷ byteAt bs 9 ∷ drop headerWidth bs)
     (sym (leader-byte-back (byteAt bs 8)))
 
 -- what was read whole is a state that meets the rules, with nothing left over
@@ -343,7 +343,7 @@ finished-accepted (parsed t []) s h = go (rules t) refl h
 -- an accepted reading went through the whole
 record Accepted (bs : List ℕ) (s : State) : Type 0 where
   header : HeaderInRange bs
-  body : andThen (readRequests (headerState bs) (drop 10 bs)) readReplicas ≡ parsed s []
+  body : andThen (readRequests (headerState bs) (drop headerWidth bs)) readReplicas ≡ parsed s []
   meets : rules s ≡ true
 
 accepted-reading : (bs : List ℕ) (s : State) → readImage bs ≡ answer accepted s → Accepted bs s
@@ -352,7 +352,7 @@ accepted-reading bs s h = go (headerRefusal bs) refl h
   where
     go : (n : ℕ) → headerRefusal bs ≡ n → readBy n bs ≡ answer accepted s → Accepted bs s
     go zero e q =
-        let f = finished-accepted (andThen (readRequests (headerState bs) (drop 10 bs)) readReplicas) s q in
+        let f = finished-accepted (andThen (readRequests (headerState bs) (drop headerWidth bs)) readReplicas) s q in
         record { header = header-in-range bs e; body = f .0; meets = f .1 }
     go (suc n) e q = absurd (let z : suc n ≡ 0 = ap (λ (o : Outcome). o .refusal) q in omega arith)
 
@@ -371,15 +371,15 @@ unfolding image headerState
 read-is-image bs s b h =
     let a = accepted-reading bs s h in
     let z = header-sizes bs (a .header) in
-    let f = then-from (readRequests (headerState bs) (drop 10 bs)) readReplicas s [] (a .body) in
-    let first : bs ≡ headerBytes (headerState bs) ++ drop 10 bs = header-faithful bs (a .header) in
-    let behind : Bytes (drop 10 bs) = bytes-behind (headerBytes (headerState bs)) (drop 10 bs) (rw first at b) in
-    let q = requests-faithful (headerState bs) (f .0) (drop 10 bs) (f .1) (omega (arith, z .epochs, z .ranges .epochs)) refl behind (f .2) in
+    let f = then-from (readRequests (headerState bs) (drop headerWidth bs)) readReplicas s [] (a .body) in
+    let first : bs ≡ headerBytes (headerState bs) ++ drop headerWidth bs = header-faithful bs (a .header) in
+    let behind : Bytes (drop headerWidth bs) = bytes-behind (headerBytes (headerState bs)) (drop headerWidth bs) (rw first at b) in
+    let q = requests-faithful (headerState bs) (f .0) (drop headerWidth bs) (f .1) (omega (arith, z .epochs, z .ranges .epochs)) refl behind (f .2) in
     let r : (withReplicas (f .0) (s .replicas) ≡ s) × (f .1 ≡ replicasBytes s ++ []) =
     replicas-faithful (f .0) s (f .1) [] (subst (λ (u : State). replicaCount (u .limits) ≤ 5) (q .0) (z .ranges .replicas)) (subst (λ (u : State). logSize (u .limits) ≤ 16) (q .0) (z .ranges .log))
     (ap (λ (u : State). length (u .replicas)) (sym (q .0))) (bytes-behind (requestsBytes (f .0)) (f .1) (rw (q .1) at behind)) (f .3) in
     let whole : withReplicas (withRequests (headerState bs) (f .0 .requests)) (s .replicas) ≡ s = ap (λ (u : State). withReplicas u (s .replicas)) (q .0) ∙ r .0 in
     let requests : requestsBytes (f .0) ≡ requestsBytes s = same-requests (f .0) s (r .0) in
     first
-    ∙ ap (λ (u : State). headerBytes u ++ drop 10 bs) whole
+    ∙ ap (λ (u : State). headerBytes u ++ drop headerWidth bs) whole
     ∙ ap (λ (l : List ℕ). headerBytes s ++ l) (q .1 ∙ ap (λ (l : List ℕ). l ++ f .1) requests ∙ ap (λ (l : List ℕ). requestsBytes s ++ l) (r .1 ∙ append-nil (replicasBytes s)))

@@ -25,13 +25,7 @@ epoch-byte-bits (negsuc n) = omega arith
 
 pub epoch-of-byte-bits : (b : ℕ) → epochOfByte b ≡ toZ w8 b
 unfolding epochOfByte
-epoch-of-byte-bits b = go (ltb b 128)
-  where
-    same : 255 - b ≡ 256 - suc b
-    same = omega arith
-
-    go : (t : Bool) → cond t (pos b) (negsuc (255 - b)) ≡ cond t (pos b) (negsuc (256 - suc b))
-    go t = ap (λ (k : ℕ). cond t (pos b) (negsuc k)) same
+epoch-of-byte-bits b = let same : 255 - b ≡ 256 - suc b = omega arith in ap (λ (k : ℕ). cond (ltb b 128) (pos b) (negsuc k)) same
 
 -- an epoch that fits is read back from its byte, and a byte is that of its epoch
 pub epoch-back : (z : ℤ) → mag z < 128 → epochOfByte (epochByte z) ≡ z

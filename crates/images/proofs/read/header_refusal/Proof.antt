@@ -9,22 +9,23 @@ use Rattle.logic.specs.Refuse.{refuse, refuse-yes, refuse-no}
 use Rattle.parts.specs.Refusal.{tooShort, wrongMark, badConfiguration, brokenState}
 use Rattle.cluster.specs.declared.Limits.{Limits}
 use Rattle.cluster.specs.Rules.{inRange, rule1}
+use Rattle.images.specs.Image.{headerWidth}
 use Rattle.images.specs.Read.{byteAt, limitsOf, marked, headerRefusal}
 use Rattle.images.proofs.read.header_refusal.Statement.{statement}
 use Rattle.images.proofs.read.header_refusal.Tie as tie
 
 -- the tests that were passed, one after another
-long : (z : tie.Else1) (rest : ℕ) → rest ≡ refuse (ltb (length (z .before .before .args .bytes .now)) 10) tooShort rest
-long z rest = refuse-no _ tooShort rest (le-ltb _ 10 (z .if1 .left))
+long : (z : tie.Else1) (rest : ℕ) → rest ≡ refuse (ltb (length (z .before .before .args .bytes .now)) headerWidth) tooShort rest
+long z rest = refuse-no _ tooShort rest (le-ltb _ headerWidth (z .if1 .left))
 
 mark : (z : tie.Else2) (rest : ℕ)
-    → rest ≡ refuse (ltb (length (z .before .before .before .before .args .bytes .now)) 10) tooShort (refuse (not (marked (z .before .before .before .before .args .bytes .now))) wrongMark rest)
+    → rest ≡ refuse (ltb (length (z .before .before .before .before .args .bytes .now)) headerWidth) tooShort (refuse (not (marked (z .before .before .before .before .args .bytes .now))) wrongMark rest)
 mark z rest =
     refuse-no (not (marked (z .before .before .before .before .args .bytes .now))) wrongMark rest (ap not (sym (z .before .is-marked .ensures) ∙ not-false _ (z .if2 .left)))
     ∙ long (z .before .before) _
 
 range : (z : tie.Else3) (rest : ℕ)
-    → rest ≡ refuse (ltb (length (z .before .before .before .before .before .before .before .args .bytes .now)) 10) tooShort
+    → rest ≡ refuse (ltb (length (z .before .before .before .before .before .before .before .args .bytes .now)) headerWidth) tooShort
     (refuse (not (marked (z .before .before .before .before .before .before .before .args .bytes .now))) wrongMark
     (refuse (not (inRange (limitsOf (z .before .before .before .before .before .before .before .args .bytes .now)))) badConfiguration rest))
 range z rest =

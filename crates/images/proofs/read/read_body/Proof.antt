@@ -2,6 +2,7 @@ use mathlib.Core.Path.{sym, _∙_, ap}
 use native.Mathlib.Omega.{arith}
 use lib.ListN.{drop}
 use borrow.Author.Needs.{needs}
+use Rattle.images.specs.Image.{headerWidth}
 use Rattle.images.specs.Read.{headerState, readRequests, readReplicas, readBody, andThen, finished}
 use Rattle.images.specs.ReadLaws.{HeaderInRange, header-in-range, header-sizes, header-room, requests-room, then-refused, then-read, then-parsed, finished-refused}
 use Rattle.images.proofs.read.read_body.Statement.{statement}
@@ -33,8 +34,8 @@ returns c =
     let r = c .before .before .before .read-requests in
     let e = rw (c .before .before .before .before .header-state .ensures) at (r .ensures) in
     c .refused .ensures
-    ∙ finished-refused (andThen (readRequests (headerState bs) (drop 10 bs)) readReplicas) bs (r .result .refusal) 10 (r .result .state)
-    (then-refused (readRequests (headerState bs) (drop 10 bs)) readReplicas bs (r .result .refusal) (r .result .at) 10 (r .result .state) (r .result .state) e (c .before .if1 .taken) (header z .long))
+    ∙ finished-refused (andThen (readRequests (headerState bs) (drop headerWidth bs)) readReplicas) bs (r .result .refusal) headerWidth (r .result .state)
+    (then-refused (readRequests (headerState bs) (drop headerWidth bs)) readReplicas bs (r .result .refusal) (r .result .at) headerWidth (r .result .state) (r .result .state) e (c .before .if1 .taken) (header z .long))
     (c .before .if1 .taken)
 
 read-replicas-requires : tie.Need-read-replicas-requires
@@ -42,7 +43,7 @@ read-replicas-requires c κs =
     let z = c .before .before .before .before .before .before in
     let r = c .before .before .before .read-requests in
     let e = rw (c .before .before .before .before .header-state .ensures) at (r .ensures) in
-    let room = requests-room (headerState (z .args .bytes .now)) (r .result .state) (drop 10 (z .args .bytes .now)) (drop (r .result .at) (z .args .bytes .now)) (e .given (c .before .if1 .left)) (header-room _ (header z)) in
+    let room = requests-room (headerState (z .args .bytes .now)) (r .result .state) (drop headerWidth (z .args .bytes .now)) (drop (r .result .at) (z .args .bytes .now)) (e .given (c .before .if1 .left)) (header-room _ (header z)) in
     (room .bounded, (room .logs, e .within))
 
 refused-requires-2 : tie.Need-refused-requires-2
@@ -57,8 +58,8 @@ returns-2 c =
     let q = c .before .before .before .read-replicas in
     let e = rw (c .before .before .before .before .before .before .before .before .header-state .ensures) at (r .ensures) in
     c .refused2 .ensures
-    ∙ finished-refused (andThen (readRequests (headerState bs) (drop 10 bs)) readReplicas) bs (q .result .refusal) (q .result .at) (q .result .state)
-    (then-read (readRequests (headerState bs) (drop 10 bs)) readReplicas bs (q .result .refusal) (q .result .at) (r .result .state) (drop (r .result .at) bs) (q .result .state) (e .given (c .before .before .before .before .before .if1 .left)) (q .ensures))
+    ∙ finished-refused (andThen (readRequests (headerState bs) (drop headerWidth bs)) readReplicas) bs (q .result .refusal) (q .result .at) (q .result .state)
+    (then-read (readRequests (headerState bs) (drop headerWidth bs)) readReplicas bs (q .result .refusal) (q .result .at) (r .result .state) (drop (r .result .at) bs) (q .result .state) (e .given (c .before .before .before .before .before .if1 .left)) (q .ensures))
     (c .before .if2 .taken)
 
 finish-requires : tie.Need-finish-requires
@@ -73,7 +74,7 @@ returns-3 c =
     let q = c .before .before .before .before .read-replicas in
     let e = rw (c .before .before .before .before .before .before .before .before .before .header-state .ensures) at (r .ensures) in
     c .finish .ensures
-    ∙ ap finished (sym (then-parsed (readRequests (headerState bs) (drop 10 bs)) readReplicas (r .result .state) (drop (r .result .at) bs) (e .given (c .before .before .before .before .before .before .if1 .left))
+    ∙ ap finished (sym (then-parsed (readRequests (headerState bs) (drop headerWidth bs)) readReplicas (r .result .state) (drop (r .result .at) bs) (e .given (c .before .before .before .before .before .before .if1 .left))
     ∙ q .ensures .given (c .before .before .if2 .left)))
 
 pub read-body-spec : {M : Type 1} → statement M
