@@ -1,6 +1,6 @@
 // The image of a state: written into a lent buffer, and read back.
 mod read;
-mod write;
+pub mod write;
 
 ghost use mathlib.Core.Path.{_≡_};
 ghost use Rattle.images.specs.Image.{writeImage, bufferAfter};

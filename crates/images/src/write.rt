@@ -134,7 +134,7 @@ fn put_header(out: &mut [u8], s: State) -> usize
 }
 
 // The image of a state that meets the rules, at the front of the buffer.
-pub(crate) fn put_image(out: &mut [u8], s: State) -> usize
+pub fn put_image(out: &mut [u8], s: State) -> usize
     requires { ⌜ rules s ≡ true ⌝ }
     requires { ⌜ length (image s) ≤ length (now out) ⌝ }
     ensures { λ n. ⌜ Stored (now (out .entry)) 0 (image s) (now (out .exit)) n ⌝ }

@@ -5,3 +5,6 @@ pub mod Lists
 pub mod Search
 pub mod Concat
 pub mod Stores
+pub mod Greatest
+pub mod Order
+pub mod Least

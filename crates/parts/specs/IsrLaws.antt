@@ -50,6 +50,28 @@ pub full-below : (n : ℕ) → n ≤ 5 → isrBelow n (fullIsr n) ≡ true
 unfolding isrBelow fullIsr
 full-below n h = lt-ltb (2 ^ n - 1) (2 ^ n) (omega (arith, power-positive n h))
 
+-- the members of the empty ISR and of the full one
+pub member-none : (i : ℕ) → member 0 i ≡ false
+unfolding member allBelow sameTruth
+member-none i =
+    elim (decLt i 5) [
+      | yes l ↦ same-truth (member 0 i) false (all-at 5 (λ j. sameTruth (member 0 j) false) refl i l)
+      | no l ↦ member-past 0 i (omega arith)
+    ]
+
+full-test : ℕ → ℕ → Bool
+full-test n i = sameTruth (member (fullIsr n) i) (ltb i n)
+
+pub member-full : (n i : ℕ) → n ≤ 5 → member (fullIsr n) i ≡ ltb i n
+unfolding full-test member fullIsr allBelow sameTruth
+member-full n i h =
+    elim (decLt i 5) [
+      | yes l ↦
+          same-truth (member (fullIsr n) i) (ltb i n)
+          (all-at 5 (full-test n) (all-at 6 (λ m. allBelow 5 (full-test m)) refl n (omega arith)) i l)
+      | no l ↦ member-past (fullIsr n) i (omega arith) ∙ sym (le-ltb i n (omega arith))
+    ]
+
 -- ---- the ISR of the replicas that a test names
 bit-small : (b : Bool) → bit b ≤ 1
 bit-small true = omega arith
@@ -171,7 +193,7 @@ including-below n isr a h l k =
 
 -- ---- the same as sums and differences of bytes
 -- an ISR is that of any test which names its members
-isrOf-ext : (isr : ℕ) (test : ℕ → Bool) → isr < 32 → ((i : ℕ) → member isr i ≡ test i) → isr ≡ isrOf test
+pub isrOf-ext : (isr : ℕ) (test : ℕ → Bool) → isr < 32 → ((i : ℕ) → member isr i ≡ test i) → isr ≡ isrOf test
 isrOf-ext isr test h f = sym (isrOf-member isr h) ∙ isrOf-cong (member isr) test (λ i l. f i)
 
 pub without-absent : (isr a : ℕ) → isr < 32 → member isr a ≡ false → isr ≡ without isr a

@@ -104,3 +104,7 @@ bufferShort = 24
 -- no operands are accepted, so there is nothing to offer
 abbrev pub noOffer : ℕ
 noOffer = 26
+
+-- the five places are not a renaming of the replicas
+abbrev pub notRenaming : ℕ
+notRenaming = 27

@@ -50,3 +50,5 @@ pub const LEFT_OVER: u8 = 23;
 pub const BUFFER_SHORT: u8 = 24;
 // No operands are accepted, so there is nothing to offer.
 pub const NO_OFFER: u8 = 26;
+// The five places are not a renaming of the replicas.
+pub const NOT_RENAMING: u8 = 27;

@@ -7,10 +7,10 @@ use mathlib.Core.Logic.{_↔_}
 use native.Mathlib.Omega.{arith}
 use native.Mathlib.Decide.{decLt}
 use lib.Dec.{eqb, ltb}
-use borrow.Author.Tests.{eqb-true, eq-eqb, ne-eqb, le-ltb}
-use Rattle.logic.specs.Tests.{allBelow, all-at, all-by, and-left, and-right, and-true, bool-ext, implied, implies, sameTruth, same-truth}
+use borrow.Author.Tests.{eqb-true, eq-eqb, ne-eqb}
+use Rattle.logic.specs.Tests.{all-at, all-by, and-left, and-right, and-true, bool-ext, implied, implies}
 use Rattle.parts.specs.Isr.{member, fullIsr, isrOf, without, including, noOther, isAlone}
-use Rattle.parts.specs.IsrLaws.{member-past, member-below, member-without, member-including, isrOf-member}
+use Rattle.parts.specs.IsrLaws.{member-none, member-full, member-past, member-below, member-without, member-including, isrOf-member}
 use Rattle.published.specs.KafkaReplication.{ReplicaSet, emptySet, singleton, minus, plus}
 
 -- an ISR has no member from 5 on, so its members are any set that has none there either and is the same below 5
@@ -24,22 +24,11 @@ members-by isr set low past =
     ])
 
 -- ---- the empty ISR, and the full one
-pub member-none : member 0 ≡ emptySet
-unfolding member allBelow sameTruth
-member-none =
-    members-by 0 emptySet (λ i l. same-truth (member 0 i) false (all-at 5 (λ j. sameTruth (member 0 j) false) refl i l)) (λ i h. refl)
+pub members-none : member 0 ≡ emptySet
+members-none = fun-ext member-none
 
-full-test : ℕ → ℕ → Bool
-full-test n i = sameTruth (member (fullIsr n) i) (ltb i n)
-
-pub member-full : (n : ℕ) → n ≤ 5 → member (fullIsr n) ≡ (λ i. ltb i n)
-unfolding full-test member fullIsr allBelow sameTruth
-member-full n h =
-    members-by (fullIsr n) (λ i. ltb i n)
-    (λ i l.
-    same-truth (member (fullIsr n) i) (ltb i n)
-    (all-at 5 (full-test n) (all-at 6 (λ m. allBelow 5 (full-test m)) refl n (omega arith)) i l))
-    (λ i k. le-ltb i n (omega arith))
+pub members-full : (n : ℕ) → n ≤ 5 → member (fullIsr n) ≡ (λ i. ltb i n)
+members-full n h = fun-ext (λ i. member-full n i h)
 
 -- ---- one replica less, and one more
 pub members-without : (isr a : ℕ) → member (without isr a) ≡ minus (member isr) a

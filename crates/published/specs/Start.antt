@@ -24,7 +24,7 @@ use Rattle.cluster.specs.FreshLaws.{fresh-replica, fresh-accepted}
 use Rattle.published.specs.KafkaReplication.{Constants, ReplicaSet, _isIn_, Replicas, Nil, LeaderAndIsr, Log, ModelState, SameLog, SameModelState, Init, LeaderInIsr}
 use Rattle.published.specs.Meaning.{constantsOf, leaderOf, localStateOf, leaderAndIsrOf, meaning, Means}
 use Rattle.published.specs.OneToOne.{leader-of-injective}
-use Rattle.published.specs.Sets.{member-none, member-full}
+use Rattle.published.specs.Sets.{members-none, members-full}
 
 -- ---- the fresh state
 module _ (c : Limits) (ok : inRange c ≡ true) where
@@ -43,9 +43,9 @@ module _ (c : Limits) (ok : inRange c ≡ true) where
         replicaLog = λ r i. ap (λ (p : Replica). p .end) (fresh-at r i);
         replicaState = λ r i.
             ap localStateOf (fresh-at r i)
-            ∙ ap (λ (set : ReplicaSet). record { hw = 0; leaderEpoch = Nil; leader = none; isr = set }) member-none;
+            ∙ ap (λ (set : ReplicaSet). record { hw = 0; leaderEpoch = Nil; leader = none; isr = set }) members-none;
         quorumState =
-            ap (λ (set : ReplicaSet). record { leaderEpoch = Nil; leader = none; isr = set }) (member-full (replicaCount c) (ranges .replicas));
+            ap (λ (set : ReplicaSet). record { leaderEpoch = Nil; leader = none; isr = set }) (members-full (replicaCount c) (ranges .replicas));
         leaderAndIsrRequests = λ request. ((λ m. let l = m .1 in absurd (omega arith)), (λ b. absurd b));
       }
 

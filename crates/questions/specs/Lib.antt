@@ -3,3 +3,4 @@ pub mod Offer
 pub mod OfferLaws
 pub mod IsrTheorems
 pub mod OfferTheorems
+pub mod Exposed

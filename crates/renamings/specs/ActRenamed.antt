@@ -1,0 +1,120 @@
+-- An action of any four bytes on a tidy state that meets the rules: the renamed action on the renamed state gets the same
+-- number, and the state handed back is the first one's, renamed. Assumes nothing.
+use Prim.Native.Nat.{ℕ, zero, suc, _≤_, _<_}
+use mathlib.Core.Path.{_≡_, refl, sym, ap, ap₂, _∙_}
+use mathlib.Core.Bool.{Bool, true, false, not, _&&_, cond}
+use native.Mathlib.Omega.{arith}
+use native.Mathlib.Nat.{le-refl}
+use native.Mathlib.Decide.{decLt}
+use lib.Dec.{ltb}
+use lib.ListN.{length}
+use borrow.Author.Tests.{lt-ltb, le-ltb}
+use Rattle.logic.specs.Tests.{every-cong}
+use Rattle.logic.specs.Refuse.{refuse}
+use Rattle.cluster.specs.declared.State.{State}
+use Rattle.cluster.specs.declared.Action.{Action}
+use Rattle.cluster.specs.declared.Outcome.{Outcome}
+use Rattle.cluster.specs.declared.Kind.{Kind}
+use Rattle.cluster.specs.declared.Kind.the-variants.{ControllerShrinkIsr, ControllerElectLeader, BecomeLeader, BecomeFollower, LeaderWrite, LeaderShrinkIsr, LeaderExpandIsr, LeaderIncHighWatermark, FollowerReplicate, Unknown}
+use Rattle.cluster.specs.State.{replicaCount}
+use Rattle.cluster.specs.Fresh.{answer}
+use Rattle.cluster.specs.Act.{kindOf, uses, operandBound, operandBounds, operandsFit, tableRefusal, tableEffect, actionRefusal, effect, answerBy, step, act}
+use Rattle.actions.specs.Kept.{step-is-act}
+use Rattle.renamings.specs.Renaming.{Renaming, ltb-to}
+use Rattle.renamings.specs.Rename.{renameState, renameOperand, renameAction}
+use Rattle.renamings.specs.RulesRenamed.{Fits}
+use Rattle.renamings.specs.ActionsRenamed.{refusal-renamed, effect-renamed}
+use Rattle.renamings.specs.TidyRenamed.{Met, at-most-five, fits, met-renamed}
+
+-- ---- the table looks at the operands that a kind uses, and at no other
+module _ (s : State) (a b c d e : ℕ) where
+  table-refusal-uses : (kind : Kind) → (uses kind .a ≡ true → a ≡ c) → (uses kind .b ≡ true → b ≡ d) → tableRefusal kind s a b e ≡ tableRefusal kind s c d e
+  unfolding tableRefusal uses
+  table-refusal-uses ControllerShrinkIsr f g = rw (f refl) refl
+  table-refusal-uses ControllerElectLeader f g = rw (f refl) refl
+  table-refusal-uses BecomeLeader f g = refl
+  table-refusal-uses BecomeFollower f g = rw (f refl) refl
+  table-refusal-uses LeaderWrite f g = rw (f refl) refl
+  table-refusal-uses LeaderShrinkIsr f g = rw (f refl, g refl) refl
+  table-refusal-uses LeaderExpandIsr f g = rw (f refl, g refl) refl
+  table-refusal-uses LeaderIncHighWatermark f g = rw (f refl) refl
+  table-refusal-uses FollowerReplicate f g = rw (f refl, g refl) refl
+  table-refusal-uses Unknown f g = refl
+
+  table-effect-uses : (kind : Kind) → (uses kind .a ≡ true → a ≡ c) → (uses kind .b ≡ true → b ≡ d) → tableEffect kind s a b e ≡ tableEffect kind s c d e
+  unfolding tableEffect uses
+  table-effect-uses ControllerShrinkIsr f g = rw (f refl) refl
+  table-effect-uses ControllerElectLeader f g = rw (f refl) refl
+  table-effect-uses BecomeLeader f g = refl
+  table-effect-uses BecomeFollower f g = rw (f refl) refl
+  table-effect-uses LeaderWrite f g = rw (f refl) refl
+  table-effect-uses LeaderShrinkIsr f g = rw (f refl, g refl) refl
+  table-effect-uses LeaderExpandIsr f g = rw (f refl, g refl) refl
+  table-effect-uses LeaderIncHighWatermark f g = rw (f refl) refl
+  table-effect-uses FollowerReplicate f g = rw (f refl, g refl) refl
+  table-effect-uses Unknown f g = refl
+
+-- ---- operands
+module _ {n : ℕ} (p : Renaming n) where
+  -- a used operand is renamed, whether it is below n or not: from n on a renaming leaves it
+  operand-used : (used : Bool) (a : ℕ) → used ≡ true → renameOperand n (p .to) used a ≡ p .to a
+  unfolding renameOperand
+  operand-used used a h =
+      rw h
+      (elim (decLt a n) [
+        | yes l ↦ rw (lt-ltb a n l) refl
+        | no l ↦ rw (le-ltb a n (omega arith)) (sym (p .keeps a (omega arith)))
+      ])
+
+  operand-fits : (used : Bool) (a : ℕ) → ltb (renameOperand n (p .to) used a) (operandBound used n) ≡ ltb a (operandBound used n)
+  unfolding operandBound
+  operand-fits true a = ap (λ (i : ℕ). ltb i n) (operand-used true a refl) ∙ ltb-to p n (le-refl n) a
+  operand-fits false a = unfold renameOperand in refl
+
+module _ (s : State) (p : Renaming (replicaCount (s .limits))) (m : Met s) (action : Action) where
+  abbrev n : ℕ
+  n = replicaCount (s .limits)
+
+  abbrev kind : Kind
+  kind = kindOf (action .kind)
+
+  abbrev ren : State → State
+  ren = renameState (p .to) (p .from)
+
+  operands-fit-renamed : operandsFit (s .limits) (renameAction n (p .to) action) ≡ operandsFit (s .limits) action
+  unfolding operandsFit operandBounds renameAction
+  operands-fit-renamed =
+      every-cong _ _ _ _ (operand-fits p (uses kind .a) (action .a))
+      (every-cong _ _ _ _ (operand-fits p (uses kind .b) (action .b)) refl)
+
+  number-renamed : actionRefusal (ren s) (renameAction n (p .to) action) ≡ actionRefusal s action
+  unfolding actionRefusal renameAction
+  number-renamed =
+      ap₂ (λ (t : Bool) (k : ℕ). refuse (ltb 8 (action .kind)) 2 (refuse (not t) 3 k)) operands-fit-renamed
+      (table-refusal-uses (ren s) _ _ (p .to (action .a)) (p .to (action .b)) (action .e) kind
+      (operand-used p (uses kind .a) (action .a)) (operand-used p (uses kind .b) (action .b))
+      ∙ refusal-renamed s p (at-most-five s m) (fits s m .five) kind (action .a) (action .b) (action .e))
+
+  next-renamed : effect (ren s) (renameAction n (p .to) action) ≡ ren (effect s action)
+  unfolding effect renameAction
+  next-renamed =
+      table-effect-uses (ren s) _ _ (p .to (action .a)) (p .to (action .b)) (action .e) kind
+      (operand-used p (uses kind .a) (action .a)) (operand-used p (uses kind .b) (action .b))
+      ∙ effect-renamed s p (at-most-five s m) (fits s m .five) kind (action .a) (action .b) (action .e)
+
+  answer-renamed : (k : ℕ) (next : State) → answerBy k (ren s) (ren next) ≡ answer (answerBy k s next .refusal) (ren (answerBy k s next .state))
+  unfolding answerBy
+  answer-renamed zero next = refl
+  answer-renamed (suc k) next = refl
+
+  pub step-renamed : step (ren s) (renameAction n (p .to) action) ≡ answer (step s action .refusal) (ren (step s action .state))
+  unfolding step
+  step-renamed =
+      ap₂ (λ (k : ℕ) (t : State). answerBy k (ren s) t) number-renamed next-renamed ∙ answer-renamed (actionRefusal s action) (effect s action)
+
+  pub act-renamed : act (ren s) (renameAction n (p .to) action) ≡ answer (act s action .refusal) (ren (act s action .state))
+  act-renamed =
+      let r = met-renamed s m p in
+      sym (step-is-act (ren s) (renameAction n (p .to) action) (r .rules) (r .tidy))
+      ∙ step-renamed
+      ∙ ap (λ (o : Outcome). answer (o .refusal) (ren (o .state))) (step-is-act s action (m .rules) (m .tidy))

@@ -1,0 +1,97 @@
+-- Renamings of a state one after another: first one and then another is one renaming, the identity leaves the state, and the
+-- way back leads back. Assumes nothing.
+use Prim.Native.Nat.{ℕ, suc, _≤_, _<_}
+use mathlib.Core.Path.{_≡_, refl, sym, ap, ap₂, _∙_, fun-ext}
+use mathlib.Core.List.{List, [], _∷_, map}
+use lib.ListN.{getD}
+use Rattle.logic.specs.Table.{table, getD-table, ext-table, table-cong}
+use Rattle.parts.specs.declared.Leader.{Leader}
+use Rattle.parts.specs.declared.Leader.the-variants.{None, Broker}
+use Rattle.parts.specs.Isr.{member, isrOf}
+use Rattle.parts.specs.IsrLaws.{member-isrOf, isrOf-cong, isrOf-member}
+use Rattle.replica.specs.declared.Replica.{Replica}
+use Rattle.replica.specs.Replica.{noReplica}
+use Rattle.cluster.specs.declared.Request.{Request}
+use Rattle.cluster.specs.declared.State.{State}
+use Rattle.cluster.specs.State.{zeroRequest, replicaIn, requestAt, replicaAt}
+use Rattle.cluster.specs.Equality.{state-path}
+use Rattle.renamings.specs.Renaming.{Renaming, identity, inverse, compose, from-below}
+use Rattle.renamings.specs.Rename.{renameLeader, renameIsr, renameQuorum, renameRequest, renameReplica, renamedReplicaAt, renameReplicas, renameState}
+use Rattle.renamings.specs.RulesRenamed.{Fits}
+
+-- ---- one after the other
+leader-twice : (u t : ℕ → ℕ) (leader : Leader) → renameLeader (λ i. u (t i)) leader ≡ renameLeader u (renameLeader t leader)
+unfolding renameLeader
+leader-twice u t None = refl
+leader-twice u t (Broker b) = refl
+
+map-twice : {A B C : Type 0} (g : B → C) (f : A → B) (h : A → C) → ((x : A) → h x ≡ g (f x)) → (l : List A) → map h l ≡ map g (map f l)
+map-twice g f h e [] = refl
+map-twice g f h e (x ∷ xs) = ap₂ (_∷_) (e x) (map-twice g f h e xs)
+
+module _ {n : ℕ} (p q : Renaming n) (five : n ≤ 5) where
+  abbrev both : Renaming n
+  both = compose p q
+
+  isr-twice : (isr : ℕ) → renameIsr (both .from) isr ≡ renameIsr (p .from) (renameIsr (q .from) isr)
+  unfolding renameIsr
+  isr-twice isr =
+      isrOf-cong (λ j. member isr (q .from (p .from j))) (λ j. member (isrOf (λ i. member isr (q .from i))) (p .from j))
+      (λ j h. sym (member-isrOf (λ i. member isr (q .from i)) (p .from j) (from-below p 5 five j h)))
+
+  request-twice : (r : Request)
+      → renameRequest (both .to) (both .from) r ≡ renameRequest (p .to) (p .from) (renameRequest (q .to) (q .from) r)
+  request-twice r = rw (leader-twice (p .to) (q .to) (r .leader), isr-twice (r .isr)) refl
+
+  replica-twice : (r : Replica)
+      → renameReplica (both .to) (both .from) r ≡ renameReplica (p .to) (p .from) (renameReplica (q .to) (q .from) r)
+  replica-twice r = rw (leader-twice (p .to) (q .to) (r .leader), isr-twice (r .isr)) refl
+
+  -- first q and then p is the composed renaming
+  pub rename-twice : (s : State)
+      → renameState (both .to) (both .from) s ≡ renameState (p .to) (p .from) (renameState (q .to) (q .from) s)
+  unfolding renameReplicas
+  rename-twice s =
+      state-path refl refl refl
+      (rw (leader-twice (p .to) (q .to) (s .quorum .leader), isr-twice (s .quorum .isr)) refl)
+      (map-twice (renameRequest (p .to) (p .from)) (renameRequest (q .to) (q .from)) (renameRequest (both .to) (both .from)) request-twice (s .requests))
+      (table-cong 5 (renamedReplicaAt (both .to) (both .from) (s .replicas))
+      (renamedReplicaAt (p .to) (p .from) (renameReplicas (q .to) (q .from) (s .replicas)))
+      (λ j h.
+      replica-twice (replicaIn (s .replicas) (q .from (p .from j)))
+      ∙ ap (renameReplica (p .to) (p .from))
+      (sym (getD-table 5 (renamedReplicaAt (q .to) (q .from) (s .replicas)) (p .from j) noReplica (from-below p 5 five j h)))))
+
+-- ---- the renaming that leaves every number
+abbrev same : ℕ → ℕ
+same i = i
+
+leader-same : (leader : Leader) → renameLeader same leader ≡ leader
+unfolding renameLeader
+leader-same None = refl
+leader-same (Broker b) = refl
+
+isr-same : (isr : ℕ) → isr < 32 → renameIsr same isr ≡ isr
+unfolding renameIsr
+isr-same isr h = isrOf-member isr h
+
+map-same : {A : Type 0} (d : A) (f : A → A) (l : List A) → ((i : ℕ) → f (getD l i d) ≡ getD l i d) → map f l ≡ l
+map-same d f [] h = refl
+map-same d f (x ∷ xs) h = ap₂ (_∷_) (h 0) (map-same d f xs (λ i. h (suc i)))
+
+pub rename-same : (s : State) → Fits s → renameState same same s ≡ s
+unfolding renameReplicas
+rename-same s f =
+    state-path refl refl refl
+    (rw (leader-same (s .quorum .leader), isr-same (s .quorum .isr) (f .quorum)) refl)
+    (map-same zeroRequest (renameRequest same same) (s .requests)
+    (λ e. rw (leader-same (requestAt s e .leader), isr-same (requestAt s e .isr) (f .requests e)) refl))
+    (sym
+    (ext-table noReplica 5 (renamedReplicaAt same same (s .replicas)) (s .replicas) (f .five)
+    (λ j h. rw (leader-same (replicaAt s j .leader), isr-same (replicaAt s j .isr) (f .replicas j)) refl)))
+
+-- ---- there and back
+pub rename-back : {n : ℕ} (p : Renaming n) → n ≤ 5 → (s : State) → Fits s
+    → renameState (p .from) (p .to) (renameState (p .to) (p .from) s) ≡ s
+rename-back p five s f =
+    sym (rename-twice (inverse p) p five s) ∙ ap (λ (t : ℕ → ℕ). renameState t t s) (fun-ext (p .from-to)) ∙ rename-same s f

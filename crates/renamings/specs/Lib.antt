@@ -1,0 +1,13 @@
+pub mod Names
+pub mod Rename
+pub mod Renaming
+pub mod Rows
+pub mod PartsRenamed
+pub mod RulesRenamed
+pub mod TidyRenamed
+pub mod ActionsRenamed
+pub mod ActRenamed
+pub mod Group
+pub mod QuestionsRenamed
+pub mod Places
+pub mod RenameTheorems

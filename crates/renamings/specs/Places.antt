@@ -1,0 +1,144 @@
+-- The five places of a renaming: of one after another, and of the way back. Renamings as five places compose and have
+-- inverses. Assumes nothing.
+use Prim.Native.Nat.{ℕ, _≤_, _<_}
+use mathlib.Core.Path.{_≡_, refl, sym, ap, ap₂, _∙_, fun-ext}
+use mathlib.Core.Bool.{Bool, true, false, not, _&&_, cond}
+use mathlib.Core.List.{List}
+use mathlib.Core.Logic.{_↔_}
+use native.Mathlib.Omega.{arith}
+use native.Mathlib.Nat.{le-refl}
+use native.Mathlib.Decide.{decLt}
+use lib.Dec.{eqb, ltb}
+use lib.ListN.{getD}
+use borrow.Author.Tests.{eq-eqb, ne-eqb, lt-ltb, le-ltb, eqb-false}
+use Rattle.logic.specs.Tests.{allBelow, all-by, and-true}
+use Rattle.logic.specs.Table.{table, getD-table}
+use Rattle.cluster.specs.declared.State.{State}
+use Rattle.renamings.specs.Names.{newName, oldName, inPlace, otherThan, isNew, placeFits, isRenaming}
+use Rattle.renamings.specs.Rename.{renameState}
+use Rattle.renamings.specs.Renaming.{Renaming, inverse, compose, to-below, from-below}
+use Rattle.renamings.specs.Rows.{Places, places-of, renamingOf, five, new-name-five, old-name-five}
+
+-- ---- the five places that hold the new names
+unfoldable pub placesOf : {n : ℕ} → Renaming n → List ℕ
+placesOf p = table 5 (p .to)
+
+module _ {n : ℕ} (small : n ≤ 5) (p : Renaming n) where
+  pub new-name-places : (i : ℕ) → newName (placesOf p) i ≡ p .to i
+  unfolding newName placesOf
+  new-name-places i =
+      elim (decLt i 5) [
+        | yes h ↦ rw (lt-ltb i 5 h) (getD-table 5 (p .to) i 0 h)
+        | no h ↦ rw (le-ltb i 5 (omega arith)) (sym (p .keeps i (omega arith)))
+      ]
+
+  pub places-renaming : isRenaming n (placesOf p) ≡ true
+  unfolding isRenaming inPlace isNew
+  places-renaming =
+      all-by 5 (placeFits n (placesOf p))
+      (λ i h.
+      and-true {a = inPlace n (placesOf p) i} {b = isNew (placesOf p) i} (rw (new-name-places i) (held i (decLt i n)))
+      (all-by i (otherThan (placesOf p) i)
+      (λ j b. rw (new-name-places i, new-name-places j) (ap not (ne-eqb (p .to i) (p .to j) (λ e. apart i j b e))))))
+    where
+      held : (i : ℕ) → Dec (i < n) → cond (ltb i n) (ltb (p .to i) n) (eqb (p .to i) i) ≡ true
+      held i (yes b) = rw (lt-ltb i n b) (lt-ltb (p .to i) n (to-below p n (le-refl n) i b))
+      held i (no b) = rw (le-ltb i n (omega arith)) (eq-eqb (p .to i) i (p .keeps i (omega arith)))
+
+      apart : (i j : ℕ) → j < i → p .to i ≡ p .to j → ⊥
+      apart i j b e = let z : i ≡ j = sym (p .from-to i) ∙ ap (p .from) e ∙ p .from-to j in omega arith
+
+  pub old-name-places : (j : ℕ) → oldName (placesOf p) j ≡ p .from j
+  old-name-places j =
+      ap (oldName (placesOf p)) (sym (new-name-places (p .from j) ∙ p .to-from j))
+      ∙ renamingOf n small (placesOf p) places-renaming .from-to (p .from j)
+
+  -- so the state under them is the state under the renaming
+  pub state-places : (s : State) → renameState (newName (placesOf p)) (oldName (placesOf p)) s ≡ renameState (p .to) (p .from) s
+  state-places s = ap₂ (λ (t f : ℕ → ℕ). renameState t f s) (fun-ext new-name-places) (fun-ext old-name-places)
+
+-- only the first five numbers of a list count
+pub renaming-five : (n : ℕ) (p : List ℕ) → isRenaming n (five p) ≡ isRenaming n p
+unfolding isRenaming inPlace isNew allBelow
+renaming-five n p = simp new-name-five
+
+pub state-five : (p : List ℕ) (s : State) → renameState (newName (five p)) (oldName (five p)) s ≡ renameState (newName p) (oldName p) s
+state-five p s = ap₂ (λ (t f : ℕ → ℕ). renameState t f s) (fun-ext (new-name-five p)) (fun-ext (old-name-five p))
+
+-- ---- first q, then p
+unfoldable pub composed : List ℕ → List ℕ → List ℕ
+composed p q = table 5 (λ i. newName p (newName q i))
+
+-- the way back
+unfoldable pub inverted : List ℕ → List ℕ
+inverted p = table 5 (oldName p)
+
+module _ (n : ℕ) (small : n ≤ 5) (p q : List ℕ) (f : isRenaming n p ≡ true) (g : isRenaming n q ≡ true) where
+  abbrev both : Renaming n
+  both = compose (renamingOf n small p f) (renamingOf n small q g)
+
+  pub composed-renaming : isRenaming n (composed p q) ≡ true
+  unfolding composed placesOf
+  composed-renaming = places-renaming small both
+
+  pub composed-names : (i : ℕ) → newName (composed p q) i ≡ newName p (newName q i)
+  unfolding composed placesOf
+  composed-names = new-name-places small both
+
+  pub composed-state : (s : State) → renameState (newName (composed p q)) (oldName (composed p q)) s ≡ renameState (both .to) (both .from) s
+  unfolding composed placesOf
+  composed-state = state-places small both
+
+module _ (n : ℕ) (small : n ≤ 5) (p : List ℕ) (f : isRenaming n p ≡ true) where
+  abbrev back : Renaming n
+  back = inverse (renamingOf n small p f)
+
+  pub inverted-renaming : isRenaming n (inverted p) ≡ true
+  unfolding inverted placesOf
+  inverted-renaming = places-renaming small back
+
+  pub inverted-names : (i : ℕ) → newName (inverted p) (newName p i) ≡ i
+  unfolding inverted placesOf
+  inverted-names i = new-name-places small back (newName p i) ∙ renamingOf n small p f .from-to i
+
+  pub inverted-state : (s : State) → renameState (newName (inverted p)) (oldName (inverted p)) s ≡ renameState (oldName p) (newName p) s
+  unfolding inverted placesOf
+  inverted-state = state-places small back
+
+-- ---- the words of the paper
+-- "the first R hold 0 to R-1 once each, the others their own number"
+pub record HoldsOnce (n : ℕ) (p : List ℕ) : Type 0 where
+  pub below : (i : ℕ) → i < n → newName p i < n
+  pub held : (j : ℕ) → j < n → (i : ℕ) × (i < n) × (newName p i ≡ j)
+  pub once : (i j : ℕ) → i < n → j < n → newName p i ≡ newName p j → i ≡ j
+  pub own : (i : ℕ) → n ≤ i → i < 5 → newName p i ≡ i
+
+pub renaming-iff : (n : ℕ) (p : List ℕ) → n ≤ 5 → isRenaming n p ≡ true ↔ HoldsOnce n p
+unfolding isRenaming inPlace isNew
+renaming-iff n p small = (
+  (λ h.
+      let r : Renaming n = renamingOf n small p h in
+      record {
+        below = λ i l. to-below r n (le-refl n) i l;
+        held = λ j l. (oldName p j, from-below r n (le-refl n) j l, r .to-from j);
+        once = λ i j k l e. sym (r .from-to i) ∙ ap (oldName p) e ∙ r .from-to j;
+        own = λ i k l. r .keeps i k;
+      }),
+  (λ r.
+      all-by 5 (placeFits n p)
+      (λ i h.
+      and-true {a = inPlace n p i} {b = isNew p i} (fits r i h (decLt i n)) (all-by i (otherThan p i) (λ j b. ap not (ne-eqb (newName p i) (newName p j) (apart r i j h b)))))),
+)
+  where
+    fits : HoldsOnce n p → (i : ℕ) → i < 5 → Dec (i < n) → cond (ltb i n) (ltb (newName p i) n) (eqb (newName p i) i) ≡ true
+    fits r i h (yes b) = rw (lt-ltb i n b) (lt-ltb (newName p i) n (r .below i b))
+    fits r i h (no b) = rw (le-ltb i n (omega arith)) (eq-eqb (newName p i) i (r .own i (omega arith) h))
+
+    apart : HoldsOnce n p → (i j : ℕ) → i < 5 → j < i → newName p i ≡ newName p j → ⊥
+    apart r i j h b e = by (decLt i n) (decLt j n)
+      where
+        by : Dec (i < n) → Dec (j < n) → ⊥
+        by (yes k) (yes l) = let z = r .once i j k l e in omega arith
+        by (yes k) (no l) = omega arith
+        by (no k) (yes l) = omega (arith, r .own i (omega arith) h, e, r .below j l)
+        by (no k) (no l) = omega (arith, r .own i (omega arith) h, e, r .own j (omega arith) (omega arith))

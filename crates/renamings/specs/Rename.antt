@@ -1,0 +1,87 @@
+-- A state and an action under a renaming. "It gives replica p(i) the whole block of replica i, and in every leader, every ISR
+-- and every used replica operand below R it puts p(i) for i; all else stays." A renaming is given here by two functions: `to`
+-- is p, and `from` the way back. Assumes nothing.
+use Prim.Native.Nat.{ℕ}
+use mathlib.Core.Bool.{Bool, not, _&&_, cond}
+use mathlib.Core.List.{List, map}
+use lib.Dec.{ltb}
+use Rattle.logic.specs.Table.{table}
+use Rattle.logic.specs.Refuse.{refuse}
+use Rattle.parts.specs.declared.Leader.{Leader}
+use Rattle.parts.specs.declared.Leader.the-variants.{None, Broker}
+use Rattle.parts.specs.Refusal.{accepted, brokenState, notRenaming}
+use Rattle.parts.specs.Isr.{member, isrOf}
+use Rattle.replica.specs.declared.Replica.{Replica}
+use Rattle.replica.specs.Replica.{replicaOf}
+use Rattle.cluster.specs.declared.Quorum.{Quorum}
+use Rattle.cluster.specs.declared.Request.{Request}
+use Rattle.cluster.specs.declared.State.{State}
+use Rattle.cluster.specs.declared.Action.{Action}
+use Rattle.cluster.specs.declared.Outcome.{Outcome}
+use Rattle.cluster.specs.State.{replicaCount, nextLeaderEpoch, nextRecordId, replicaIn, stateOf, tidy}
+use Rattle.cluster.specs.Rules.{rules}
+use Rattle.cluster.specs.Fresh.{answer}
+use Rattle.cluster.specs.Act.{kindOf, actionOf, uses, answerBy}
+use Rattle.renamings.specs.Names.{newName, oldName, isRenaming}
+
+-- ---- the parts of a state
+-- a leader by its new name; none stays none
+unfoldable pub renameLeader : (ℕ → ℕ) → Leader → Leader
+renameLeader to None = None
+renameLeader to (Broker b) = Broker (to b)
+
+-- j is in the renamed ISR where the replica that is named j was in the ISR
+unfoldable pub renameIsr : (ℕ → ℕ) → ℕ → ℕ
+renameIsr from isr = isrOf (λ j. member isr (from j))
+
+module _ (to from : ℕ → ℕ) where
+  abbrev pub renameQuorum : Quorum → Quorum
+  renameQuorum q = record { epoch = q .epoch; leader = renameLeader to (q .leader); isr = renameIsr from (q .isr) }
+
+  abbrev pub renameRequest : Request → Request
+  renameRequest q = record { leader = renameLeader to (q .leader); isr = renameIsr from (q .isr) }
+
+  -- the whole block of a replica
+  abbrev pub renameReplica : Replica → Replica
+  renameReplica p = replicaOf (p .hw) (p .epoch) (renameLeader to (p .leader)) (renameIsr from (p .isr)) (p .end) (p .log)
+
+  -- the replica named j has the block of the one that was named `from j`
+  abbrev pub renamedReplicaAt : List Replica → ℕ → Replica
+  renamedReplicaAt replicas j = renameReplica (replicaIn replicas (from j))
+
+  unfoldable pub renameReplicas : List Replica → List Replica
+  renameReplicas replicas = table 5 (renamedReplicaAt replicas)
+
+  -- ---- the state
+  abbrev pub renameState : State → State
+  renameState s =
+      stateOf (s .limits) (nextLeaderEpoch s) (nextRecordId s) (renameQuorum (s .quorum)) (map renameRequest (s .requests))
+      (renameReplicas (s .replicas))
+
+-- ---- an action of n replicas
+-- an operand: p(a) where it is used and below n, else as it is
+unfoldable pub renameOperand : ℕ → (ℕ → ℕ) → Bool → ℕ → ℕ
+renameOperand n to used a = cond (used && ltb a n) (to a) a
+
+unfoldable pub renameAction : ℕ → (ℕ → ℕ) → Action → Action
+renameAction n to action =
+    actionOf (action .kind)
+    (renameOperand n to (uses (kindOf (action .kind)) .a) (action .a))
+    (renameOperand n to (uses (kindOf (action .kind)) .b) (action .b))
+    (action .e)
+
+-- ---- by five places p
+-- the state under p, with zeros in its unused room
+unfoldable pub renamed : List ℕ → State → State
+renamed p s = renameState (newName p) (oldName p) (tidy s)
+
+-- "else 27 (after 1)"
+unfoldable pub renameRefusal : State → List ℕ → ℕ
+renameRefusal s p =
+    refuse (not (rules s)) brokenState
+    (refuse (not (isRenaming (replicaCount (s .limits)) p)) notRenaming
+    accepted)
+
+-- what renaming answers: accepted, the state under p; refused, the number and the state as given
+unfoldable pub rename : State → List ℕ → Outcome
+rename s p = answerBy (renameRefusal s p) s (renamed p s)

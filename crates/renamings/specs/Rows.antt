@@ -1,0 +1,253 @@
+-- The 120 rows of the table: one test that is computed shows that each is a renaming of five places, that they rise, so that no
+-- row stands twice, and that every renaming is a row. From it, each list of five places that passes the test of a renaming
+-- of n replicas is a renaming: it has a way back. Assumes nothing.
+use Prim.Native.Nat.{ℕ, zero, suc, _+_, _*_, _-_, _≤_, _<_}
+use mathlib.Core.Path.{_≡_, refl, sym, ap, ap₂, _∙_, subst}
+use mathlib.Core.Bool.{Bool, true, false, not, _&&_, _||_, cond}
+use mathlib.Core.List.{List, [], _∷_}
+use native.Mathlib.Omega.{arith}
+use native.Mathlib.Decide.{decLt, ℕ-discrete}
+use lib.Dec.{eqb, ltb, leb}
+use lib.ListN.{length, getD, List·getD-eq-default}
+use borrow.Author.Tests.{eqb-true, ltb-true, lt-ltb, le-ltb, ne-eqb, not-true}
+use Rattle.logic.specs.Tests.{allBelow, all-at, every, every-at, and-left, and-right, sameTruth, same-truth, true-false}
+use Rattle.logic.specs.Concat.{concatBelow}
+use Rattle.parts.specs.IsrLaws.{below-five}
+use Rattle.renamings.specs.Names.{newName, holder, oldName, inPlace, otherThan, isNew, placeFits, isRenaming, withoutPlace, orders, rows, row}
+use Rattle.logic.specs.Order.{precedes, precedes-irreflexive, precedes-onward}
+use Rattle.renamings.specs.Renaming.{Renaming}
+
+-- ---- the test of the table
+-- there and back
+abbrev comesBack : List ℕ → ℕ → Bool
+comesBack p i = eqb (newName p (oldName p i)) i && eqb (oldName p (newName p i)) i
+
+-- row k is a renaming of five places, and has a way back
+abbrev rowTest : ℕ → Bool
+rowTest k = isRenaming 5 (row k) && allBelow 5 (comesBack (row k))
+
+-- row k comes before the next
+abbrev rises : ℕ → Bool
+rises k = precedes (row k) (row (suc k))
+
+-- for n replicas, row k is a renaming where it leaves each place from n on
+abbrev keepsPlace : ℕ → List ℕ → ℕ → Bool
+keepsPlace n p i = ltb i n || eqb (newName p i) i
+
+abbrev fitsTest : ℕ → ℕ → Bool
+fitsTest k n = sameTruth (isRenaming n (row k)) (allBelow 5 (keepsPlace n (row k)))
+
+-- how many numbers before it are smaller
+less : ℕ → ℕ → ℕ
+less x y = cond (ltb x y) 1 0
+
+-- the row of five different numbers, by the first four of them
+rank : ℕ → ℕ → ℕ → ℕ → ℕ
+rank a b c d = 24 * a + 6 * (b - less a b) + 2 * (c - (less a c + less b c)) + (d - (less a d + (less b d + less c d)))
+
+sameNumbers : List ℕ → List ℕ → Bool
+sameNumbers [] [] = true
+sameNumbers [] (y ∷ ys) = false
+sameNumbers (x ∷ xs) [] = false
+sameNumbers (x ∷ xs) (y ∷ ys) = eqb x y && sameNumbers xs ys
+
+-- any five different numbers below five are a row
+complete : Bool
+complete =
+    allBelow 5
+    (λ a.
+    allBelow 5
+    (λ b.
+    eqb b a
+    || allBelow 5
+    (λ c.
+    eqb c a
+    || eqb c b
+    || allBelow 5
+    (λ d.
+    eqb d a
+    || eqb d b
+    || eqb d c
+    || allBelow 5 (λ e. eqb e a || eqb e b || eqb e c || eqb e d || sameNumbers (row (rank a b c d)) (a ∷ b ∷ c ∷ d ∷ e ∷ []))))))
+
+abbrev tableTests : List Bool
+tableTests =
+    allBelow 120 rowTest
+    ∷ allBelow 119 rises
+    ∷ complete
+    ∷ allBelow 120 (λ k. allBelow 6 (fitsTest k))
+    ∷ eqb (length rows) 120
+    ∷ []
+
+table-right : every tableTests ≡ true
+unfolding every allBelow concatBelow sameTruth newName holder oldName inPlace isNew isRenaming withoutPlace orders rows precedes
+    less rank sameNumbers complete
+table-right = refl
+
+right : (k : ℕ) → getD tableTests k true ≡ true
+right = every-at tableTests table-right
+
+pub rows-count : length rows ≡ 120
+rows-count = eqb-true (length rows) 120 (right 4)
+
+-- ---- each row is a renaming of five places
+pub row-renaming : (k : ℕ) → k < 120 → isRenaming 5 (row k) ≡ true
+row-renaming k h = and-left (isRenaming 5 (row k)) (allBelow 5 (comesBack (row k))) (all-at 120 rowTest (right 0) k h)
+
+-- ---- the rows rise, so no row stands twice
+next-rises : (k : ℕ) → suc k < 120 → precedes (row k) (row (suc k)) ≡ true
+next-rises k h = all-at 119 rises (right 1) k (omega arith)
+
+pub rows-rise : (i j : ℕ) → i < j → j < 120 → precedes (row i) (row j) ≡ true
+rows-rise i zero h l = absurd (omega arith)
+rows-rise i (suc j) h l =
+    elim (ℕ-discrete i j) [
+      | yes e ↦ rw e (next-rises j l)
+      | no e ↦ precedes-onward (row i) (row j) (row (suc j)) (rows-rise i j (omega arith) (omega arith)) (next-rises j l)
+    ]
+
+pub no-row-twice : (i j : ℕ) → i < j → j < 120 → row i ≡ row j → ⊥
+no-row-twice i j h l e =
+    true-false (sym (rows-rise i j h l) ∙ ap (λ (r : List ℕ). precedes r (row j)) e ∙ precedes-irreflexive (row j))
+
+-- ---- for n replicas, a row that leaves each place from n on is a renaming, and no other row is
+pub row-fits : (n k : ℕ) → n ≤ 5 → k < 120 → isRenaming n (row k) ≡ allBelow 5 (keepsPlace n (row k))
+row-fits n k h l =
+    same-truth _ _ (all-at 6 (fitsTest k) (all-at 120 (λ j. allBelow 6 (fitsTest j)) (right 3) k l) n (omega arith))
+
+-- ---- what the test of five places says
+pub record Places (n : ℕ) (p : List ℕ) : Type 0 where
+  pub within : (i : ℕ) → i < n → i < 5 → newName p i < n
+  pub others : (i : ℕ) → n ≤ i → i < 5 → newName p i ≡ i
+  pub apart : (i j : ℕ) → i < 5 → j < i → eqb (newName p i) (newName p j) ≡ false
+
+pub places-of : (n : ℕ) (p : List ℕ) → isRenaming n p ≡ true → Places n p
+unfolding isRenaming inPlace isNew
+places-of n p e =
+    let h : (i : ℕ) → i < 5 → placeFits n p i ≡ true = all-at 5 (placeFits n p) e in
+    let held : (i : ℕ) → i < 5 → inPlace n p i ≡ true = λ i f. and-left (inPlace n p i) (isNew p i) (h i f) in
+    record {
+      within = λ i b f. ltb-true (newName p i) n (rw (lt-ltb i n b) at (held i f));
+      others = λ i b f. eqb-true (newName p i) i (rw (le-ltb i n b) at (held i f));
+      apart = λ i j f b. not-true (eqb (newName p i) (newName p j)) (all-at i (otherThan p i) (and-right (inPlace n p i) (isNew p i) (h i f)) j b);
+    }
+
+-- ---- every renaming is a row
+same-numbers : (xs ys : List ℕ) → sameNumbers xs ys ≡ true → xs ≡ ys
+unfolding sameNumbers
+same-numbers [] [] e = refl
+same-numbers [] (y ∷ ys) e = absurd (true-false (sym e))
+same-numbers (x ∷ xs) [] e = absurd (true-false (sym e))
+same-numbers (x ∷ xs) (y ∷ ys) e =
+    ap₂ (_∷_) (eqb-true x y (and-left (eqb x y) (sameNumbers xs ys) e)) (same-numbers xs ys (and-right (eqb x y) (sameNumbers xs ys) e))
+
+is-row : (a b c d e : ℕ) → a < 5 → b < 5 → c < 5 → d < 5 → e < 5
+    → eqb b a ≡ false → eqb c a ≡ false → eqb c b ≡ false
+    → eqb d a ≡ false → eqb d b ≡ false → eqb d c ≡ false
+    → eqb e a ≡ false → eqb e b ≡ false → eqb e c ≡ false → eqb e d ≡ false
+    → row (rank a b c d) ≡ a ∷ b ∷ c ∷ d ∷ e ∷ []
+unfolding complete
+is-row a b c d e ha hb hc hd he ba ca cb da db dc ea eb ec ed =
+    same-numbers (row (rank a b c d)) (a ∷ b ∷ c ∷ d ∷ e ∷ [])
+    (rw (ea, eb, ec, ed) at
+    (all-at 5 _
+    (rw (da, db, dc) at (all-at 5 _ (rw (ca, cb) at (all-at 5 _ (rw ba at (all-at 5 _ (all-at 5 _ (right 2) a ha) b hb)) c hc)) d hd)) e he))
+
+-- the five numbers of the places
+abbrev pub five : List ℕ → List ℕ
+five p = getD p 0 0 ∷ getD p 1 0 ∷ getD p 2 0 ∷ getD p 3 0 ∷ getD p 4 0 ∷ []
+
+pub new-name-five : (p : List ℕ) (i : ℕ) → newName (five p) i ≡ newName p i
+unfolding newName
+new-name-five p i =
+    elim (decLt i 5) [
+      | yes h ↦ below-five (λ (k : ℕ). newName (five p) k ≡ newName p k) refl refl refl refl refl i h
+      | no h ↦ rw (le-ltb i 5 (omega arith)) refl
+    ]
+
+pub old-name-five : (p : List ℕ) (j : ℕ) → oldName (five p) j ≡ oldName p j
+unfolding oldName holder newName
+old-name-five p j = refl
+
+module _ (n : ℕ) (small : n ≤ 5) (p : List ℕ) (r : Places n p) where
+  low : (i : ℕ) → i < 5 → newName p i < 5
+  low i h =
+      elim (decLt i n) [
+        | yes b ↦ omega (arith, r .within i b h)
+        | no b ↦ omega (arith, r .others i (omega arith) h)
+      ]
+
+  row-of : (k : ℕ) × (row k ≡ five p)
+  unfolding newName
+  row-of =
+      let w : (i : ℕ) → i < 5 → newName p i < 5 = low in
+      let z : (i j : ℕ) → i < 5 → j < i → eqb (newName p i) (newName p j) ≡ false = r .apart in (
+        rank (getD p 0 0) (getD p 1 0) (getD p 2 0) (getD p 3 0),
+        is-row (getD p 0 0) (getD p 1 0) (getD p 2 0) (getD p 3 0) (getD p 4 0)
+            (w 0 (omega arith)) (w 1 (omega arith)) (w 2 (omega arith)) (w 3 (omega arith)) (w 4 (omega arith))
+            (z 1 0 (omega arith) (omega arith)) (z 2 0 (omega arith) (omega arith)) (z 2 1 (omega arith) (omega arith))
+            (z 3 0 (omega arith) (omega arith)) (z 3 1 (omega arith) (omega arith)) (z 3 2 (omega arith) (omega arith))
+            (z 4 0 (omega arith) (omega arith)) (z 4 1 (omega arith) (omega arith)) (z 4 2 (omega arith) (omega arith)) (z 4 3 (omega arith) (omega arith)),
+      )
+
+  -- its row
+  pub row-number : (k : ℕ) × (k < 120) × (row k ≡ five p)
+  row-number = let x = row-of in (x .0, bound (decLt (x .0) 120) (x .1), x .1)
+    where
+      bound : {k : ℕ} → Dec (k < 120) → row k ≡ five p → k < 120
+      bound (yes h) e = h
+      bound {k} (no h) e =
+          let z : _≡_ {A = ℕ} 5 0 = ap length (sym e ∙ List·getD-eq-default rows [] (omega (arith, rows-count))) in
+          absurd (omega arith)
+
+  -- ---- and its way back
+  comes-back : (i : ℕ) → i < 5 → comesBack p i ≡ true
+  comes-back i h =
+      let x = row-number in
+      let all : allBelow 5 (comesBack (five p)) ≡ true =
+      subst (λ (q : List ℕ). allBelow 5 (comesBack q) ≡ true) (x .2)
+      (and-right (isRenaming 5 (row (x .0))) (allBelow 5 (comesBack (row (x .0)))) (all-at 120 rowTest (right 0) (x .0) (x .1))) in
+      rw (new-name-five p i, old-name-five p i, old-name-five p (newName p i), new-name-five p (oldName p i)) at
+      (all-at 5 (comesBack (five p)) all i h)
+
+  new-past : (i : ℕ) → 5 ≤ i → newName p i ≡ i
+  unfolding newName
+  new-past i h = rw (le-ltb i 5 h) refl
+
+  old-past : (j : ℕ) → 5 ≤ j → oldName p j ≡ j
+  unfolding oldName holder
+  old-past j h =
+      let past : (i : ℕ) → i < 5 → eqb (newName p i) j ≡ false = λ i l. ne-eqb (newName p i) j (λ e. omega (arith, low i l)) in
+      rw (past 0 (omega arith), past 1 (omega arith), past 2 (omega arith), past 3 (omega arith), past 4 (omega arith)) refl
+
+  pub new-old : (i : ℕ) → newName p (oldName p i) ≡ i
+  new-old i =
+      elim (decLt i 5) [
+        | yes h ↦
+            eqb-true (newName p (oldName p i)) i
+            (and-left (eqb (newName p (oldName p i)) i) (eqb (oldName p (newName p i)) i) (comes-back i h))
+        | no h ↦ ap (newName p) (old-past i (omega arith)) ∙ new-past i (omega arith)
+      ]
+
+  pub old-new : (i : ℕ) → oldName p (newName p i) ≡ i
+  old-new i =
+      elim (decLt i 5) [
+        | yes h ↦
+            eqb-true (oldName p (newName p i)) i
+            (and-right (eqb (newName p (oldName p i)) i) (eqb (oldName p (newName p i)) i) (comes-back i h))
+        | no h ↦ ap (oldName p) (new-past i (omega arith)) ∙ old-past i (omega arith)
+      ]
+
+  pub stays : (i : ℕ) → n ≤ i → newName p i ≡ i
+  stays i b = elim (decLt i 5) [ yes h ↦ r .others i b h | no h ↦ new-past i (omega arith) ]
+
+-- five places that pass the test are a renaming
+abbrev pub renamingOf : (n : ℕ) → n ≤ 5 → (p : List ℕ) → isRenaming n p ≡ true → Renaming n
+renamingOf n small p h =
+    record {
+      to = newName p;
+      from = oldName p;
+      to-from = new-old n small p (places-of n p h);
+      from-to = old-new n small p (places-of n p h);
+      keeps = stays n small p (places-of n p h);
+    }

@@ -1,0 +1,1 @@
+// Renamings of the replicas: the table of all of them, and a state under one.
