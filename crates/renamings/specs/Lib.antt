@@ -11,3 +11,4 @@ pub mod Group
 pub mod QuestionsRenamed
 pub mod Places
 pub mod RenameTheorems
+pub mod CodeLaws

@@ -62,3 +62,7 @@ rows = orders 5 (0 ∷ 1 ∷ 2 ∷ 3 ∷ 4 ∷ [])
 -- row k
 abbrev pub row : ℕ → List ℕ
 row k = getD rows k []
+
+-- the 600 numbers of the table: the rows one after the other
+unfoldable pub numbers : List ℕ
+numbers = concatBelow 120 row

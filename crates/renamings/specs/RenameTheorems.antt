@@ -41,12 +41,6 @@ use Rattle.renamings.specs.QuestionsRenamed.{holds-renamed, exposed-rena
 abbrev count : State → ℕ
 count s = replicaCount (s .limits)
 
--- what renaming answers: a state that meets the rules and five places that are a renaming are accepted
-pub rename-accepted : (s : State) (p : List ℕ) → rules s ≡ true → isRenaming (count s) p ≡ true → rename s p ≡ answer accepted (renamed p s)
-unfolding rename renameRefusal
-rename-accepted s p h f =
-    sym (answer-zero _ s (renamed p s) (refuse-none (not (rules s)) _ _ (ap not h) (refuse-none (not (isRenaming (count s) p)) _ _ (ap not f) refl)))
-
 -- ---- of tidy states that meet the rules
 abbrev renamingOn : (s : State) → Met s → (p : List ℕ) → isRenaming (count s) p ≡ true → Renaming (count s)
 renamingOn s m p f = renamingOf (count s) (at-most-five s m) p f

@@ -22,16 +22,29 @@ use Rattle.renamings.specs.Renaming.{Renaming}
 abbrev comesBack : List ℕ → ℕ → Bool
 comesBack p i = eqb (newName p (oldName p i)) i && eqb (oldName p (newName p i)) i
 
--- row k is a renaming of five places, and has a way back
+-- the five numbers of the places
+abbrev pub five : List ℕ → List ℕ
+five p = getD p 0 0 ∷ getD p 1 0 ∷ getD p 2 0 ∷ getD p 3 0 ∷ getD p 4 0 ∷ []
+
+sameNumbers : List ℕ → List ℕ → Bool
+sameNumbers [] [] = true
+sameNumbers [] (y ∷ ys) = false
+sameNumbers (x ∷ xs) [] = false
+sameNumbers (x ∷ xs) (y ∷ ys) = eqb x y && sameNumbers xs ys
+
+-- row k is a renaming of five places, has a way back, and has five numbers
+abbrev rowTests : ℕ → List Bool
+rowTests k = isRenaming 5 (row k) ∷ allBelow 5 (comesBack (row k)) ∷ sameNumbers (row k) (five (row k)) ∷ []
+
 abbrev rowTest : ℕ → Bool
-rowTest k = isRenaming 5 (row k) && allBelow 5 (comesBack (row k))
+rowTest k = every (rowTests k)
 
 -- row k comes before the next
 abbrev rises : ℕ → Bool
 rises k = precedes (row k) (row (suc k))
 
 -- for n replicas, row k is a renaming where it leaves each place from n on
-abbrev keepsPlace : ℕ → List ℕ → ℕ → Bool
+abbrev pub keepsPlace : ℕ → List ℕ → ℕ → Bool
 keepsPlace n p i = ltb i n || eqb (newName p i) i
 
 abbrev fitsTest : ℕ → ℕ → Bool
@@ -44,12 +57,6 @@ less x y = cond (ltb x y) 1 0
 -- the row of five different numbers, by the first four of them
 rank : ℕ → ℕ → ℕ → ℕ → ℕ
 rank a b c d = 24 * a + 6 * (b - less a b) + 2 * (c - (less a c + less b c)) + (d - (less a d + (less b d + less c d)))
-
-sameNumbers : List ℕ → List ℕ → Bool
-sameNumbers [] [] = true
-sameNumbers [] (y ∷ ys) = false
-sameNumbers (x ∷ xs) [] = false
-sameNumbers (x ∷ xs) (y ∷ ys) = eqb x y && sameNumbers xs ys
 
 -- any five different numbers below five are a row
 complete : Bool
@@ -92,7 +99,7 @@ rows-count = eqb-true (length rows) 120 (right 4)
 
 -- ---- each row is a renaming of five places
 pub row-renaming : (k : ℕ) → k < 120 → isRenaming 5 (row k) ≡ true
-row-renaming k h = and-left (isRenaming 5 (row k)) (allBelow 5 (comesBack (row k))) (all-at 120 rowTest (right 0) k h)
+row-renaming k h = every-at (rowTests k) (all-at 120 rowTest (right 0) k h) 0
 
 -- ---- the rows rise, so no row stands twice
 next-rises : (k : ℕ) → suc k < 120 → precedes (row k) (row (suc k)) ≡ true
@@ -141,6 +148,10 @@ same-numbers (x ∷ xs) [] e = absurd (true-false (sym e))
 same-numbers (x ∷ xs) (y ∷ ys) e =
     ap₂ (_∷_) (eqb-true x y (and-left (eqb x y) (sameNumbers xs ys) e)) (same-numbers xs ys (and-right (eqb x y) (sameNumbers xs ys) e))
 
+-- a row has five numbers
+pub row-numbers : (k : ℕ) → k < 120 → row k ≡ five (row k)
+row-numbers k h = same-numbers (row k) (five (row k)) (every-at (rowTests k) (all-at 120 rowTest (right 0) k h) 2)
+
 is-row : (a b c d e : ℕ) → a < 5 → b < 5 → c < 5 → d < 5 → e < 5
     → eqb b a ≡ false → eqb c a ≡ false → eqb c b ≡ false
     → eqb d a ≡ false → eqb d b ≡ false → eqb d c ≡ false
@@ -152,10 +163,6 @@ is-row a b c d e ha hb hc hd he ba ca cb da db dc ea eb ec ed =
     (rw (ea, eb, ec, ed) at
     (all-at 5 _
     (rw (da, db, dc) at (all-at 5 _ (rw (ca, cb) at (all-at 5 _ (rw ba at (all-at 5 _ (all-at 5 _ (right 2) a ha) b hb)) c hc)) d hd)) e he))
-
--- the five numbers of the places
-abbrev pub five : List ℕ → List ℕ
-five p = getD p 0 0 ∷ getD p 1 0 ∷ getD p 2 0 ∷ getD p 3 0 ∷ getD p 4 0 ∷ []
 
 pub new-name-five : (p : List ℕ) (i : ℕ) → newName (five p) i ≡ newName p i
 unfolding newName
@@ -206,7 +213,7 @@ module _ (n : ℕ) (small : n ≤ 5) (p : List ℕ) (r : Places n p) where
       let x = row-number in
       let all : allBelow 5 (comesBack (five p)) ≡ true =
       subst (λ (q : List ℕ). allBelow 5 (comesBack q) ≡ true) (x .2)
-      (and-right (isRenaming 5 (row (x .0))) (allBelow 5 (comesBack (row (x .0)))) (all-at 120 rowTest (right 0) (x .0) (x .1))) in
+      (every-at (rowTests (x .0)) (all-at 120 rowTest (right 0) (x .0) (x .1)) 1) in
       rw (new-name-five p i, old-name-five p i, old-name-five p (newName p i), new-name-five p (oldName p i)) at
       (all-at 5 (comesBack (five p)) all i h)
 

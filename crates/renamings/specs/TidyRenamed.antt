@@ -88,7 +88,7 @@ module _ (s : State) (m : Met s) where
       }
 
 -- a list mapped, given by what stands at each place
-map-table : {A B : Type 0} (d : A) (n : ℕ) (f : A → B) (l : List A) (g : ℕ → B) → length l ≡ n
+pub map-table : {A B : Type 0} (d : A) (n : ℕ) (f : A → B) (l : List A) (g : ℕ → B) → length l ≡ n
     → ((i : ℕ) → i < n → f (getD l i d) ≡ g i) → map f l ≡ table n g
 map-table d n f l g e h = ext-table (f d) n g (map f l) (length-map l f ∙ e) (λ i b. List·getD-map f l i d ∙ h i b)
 

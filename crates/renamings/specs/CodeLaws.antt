@@ -1,0 +1,172 @@
+-- What the code of renamings works with: names, the constant of the table, and the old names as five numbers. Assumes nothing.
+use Prim.Native.Nat.{ℕ, zero, suc, _+_, _*_, _≤_, _<_}
+use mathlib.Core.Path.{_≡_, refl, sym, ap, _∙_, fun-ext}
+use mathlib.Core.Bool.{true, false, not, cond}
+use mathlib.Core.List.{List, [], _∷_, map}
+use native.Mathlib.Numerals.{add-one}
+use native.Mathlib.Omega.{arith}
+use lib.Dec.{eqb, ltb}
+use borrow.Author.Tests.{lt-ltb, le-ltb, eq-eqb, ne-eqb}
+use lib.ListN.{length, getD}
+use Rattle.logic.specs.Concat.{concatBelow}
+use Rattle.logic.specs.Table.{table, getD-table, table-cong}
+use Rattle.parts.specs.Isr.{member, isrOf}
+use Rattle.parts.specs.IsrLaws.{below-five, isrOf-cong}
+use Rattle.replica.specs.declared.Replica.{Replica}
+use Rattle.cluster.specs.declared.Request.{Request}
+use Rattle.cluster.specs.declared.State.{State}
+use Rattle.logic.specs.Refuse.{refuse-yes, refuse-no, refuse-none}
+use Rattle.parts.specs.Refusal.{accepted, brokenState, notRenaming}
+use Rattle.cluster.specs.State.{replicaCount, nextLeaderEpoch, nextRecordId, zeroRequest, requestIn, replicaIn, stateOf}
+use Rattle.cluster.specs.Rules.{rules, stateRefusal}
+use Rattle.cluster.specs.RuleLaws.{refusal-broken}
+use Rattle.cluster.specs.Fresh.{answer}
+use Rattle.cluster.specs.Act.{answerBy}
+use Rattle.cluster.specs.ActLaws.{answer-zero, answer-other}
+use Rattle.cluster.specs.Equality.{state-path}
+use Rattle.renamings.specs.Names.{newName, holder, oldName, inPlace, isRenaming, withoutPlace, orders, rows, row, numbers}
+use Rattle.renamings.specs.Rename.{renameIsr, renameQuorum, renameRequest, renameReplica, renamedReplicaAt, renameReplicas, renameState, renamed, renameRefusal, rename}
+use Rattle.renamings.specs.Renaming.{from-below}
+use Rattle.renamings.specs.Rows.{keepsPlace, rows-count, renamingOf}
+use Rattle.renamings.specs.Places.{inverted}
+use Rattle.renamings.specs.TidyRenamed.{map-table}
+
+-- ---- names
+pub new-name-place : (p : List ℕ) (i : ℕ) → i < 5 → getD p i 0 ≡ newName p i
+unfolding newName
+new-name-place p i h = rw (lt-ltb i 5 h) refl
+
+pub new-name-past : (p : List ℕ) (i : ℕ) → 5 ≤ i → i ≡ newName p i
+unfolding newName
+new-name-past p i h = rw (le-ltb i 5 h) refl
+
+pub holder-more : (p : List ℕ) (i j : ℕ) → cond (eqb (newName p i) j) i (holder i p j) ≡ holder (i + 1) p j
+unfolding holder
+holder-more p i j = rw add-one refl
+
+pub in-place-low : (n : ℕ) (p : List ℕ) (i : ℕ) → i < n → ltb (newName p i) n ≡ inPlace n p i
+unfolding inPlace
+in-place-low n p i h = rw (lt-ltb i n h) refl
+
+pub in-place-high : (n : ℕ) (p : List ℕ) (i : ℕ) → n ≤ i → eqb (newName p i) i ≡ inPlace n p i
+unfolding inPlace
+in-place-high n p i h = rw (le-ltb i n h) refl
+
+-- a place from n on is left exactly where it holds its own number
+pub keeps-yes : (n : ℕ) (p : List ℕ) (i : ℕ) → n ≤ i → newName p i ≡ i → keepsPlace n p i ≡ true
+keeps-yes n p i h e = rw (le-ltb i n h) (eq-eqb (newName p i) i e)
+
+pub keeps-no : (n : ℕ) (p : List ℕ) (i : ℕ) → n ≤ i → (newName p i ≡ i → ⊥) → keepsPlace n p i ≡ false
+keeps-no n p i h e = rw (le-ltb i n h) (ne-eqb (newName p i) i e)
+
+-- ---- the constant of 600 numbers
+-- five numbers to a row
+rowsOf : List ℕ → List (List ℕ)
+rowsOf [] = []
+rowsOf (a ∷ []) = []
+rowsOf (a ∷ b ∷ []) = []
+rowsOf (a ∷ b ∷ c ∷ []) = []
+rowsOf (a ∷ b ∷ c ∷ d ∷ []) = []
+rowsOf (a ∷ b ∷ c ∷ d ∷ e ∷ l) = (a ∷ b ∷ c ∷ d ∷ e ∷ []) ∷ rowsOf l
+
+rows-at : (l : List ℕ) (k j : ℕ) → k < length (rowsOf l) → j < 5 → getD l (5 * k + j) 0 ≡ getD (getD (rowsOf l) k []) j 0
+unfolding rowsOf
+rows-at [] k j h b = absurd (omega arith)
+rows-at (a ∷ []) k j h b = absurd (omega arith)
+rows-at (a ∷ b ∷ []) k j h i = absurd (omega arith)
+rows-at (a ∷ b ∷ c ∷ []) k j h i = absurd (omega arith)
+rows-at (a ∷ b ∷ c ∷ d ∷ []) k j h i = absurd (omega arith)
+rows-at (a ∷ b ∷ c ∷ d ∷ e ∷ l) zero j h i =
+    below-five (λ (x : ℕ). getD (a ∷ b ∷ c ∷ d ∷ e ∷ l) (5 * 0 + x) 0 ≡ getD (a ∷ b ∷ c ∷ d ∷ e ∷ []) x 0) refl refl refl refl refl j i
+rows-at (a ∷ b ∷ c ∷ d ∷ e ∷ l) (suc k) j h i =
+    let past : 5 * suc k + j ≡ suc (suc (suc (suc (suc (5 * k + j))))) = omega arith in
+    rw past (rows-at l k j (omega arith) i)
+
+-- what stands in row k, place j of the 600 numbers
+numbers-rows : rowsOf numbers ≡ rows
+unfolding rowsOf numbers rows orders withoutPlace concatBelow
+numbers-rows = refl
+
+pub numbers-at : (k j : ℕ) → k < 120 → j < 5 → getD numbers (5 * k + j) 0 ≡ getD (row k) j 0
+numbers-at k j h i =
+    rows-at numbers k j (omega (arith, ap (λ (r : List (List ℕ)). length r) numbers-rows, rows-count)) i
+    ∙ ap (λ (r : List (List ℕ)). getD (getD r k []) j 0) numbers-rows
+
+-- ---- the old names as five numbers
+-- what place j of five numbers holds
+abbrev pub nameIn : List ℕ → ℕ → ℕ
+nameIn back j = getD back j 0
+
+-- each of them is below five
+abbrev pub Inward : List ℕ → Type 0
+Inward back = (j : ℕ) → j < 5 → nameIn back j < 5
+
+-- the request of epoch e, renamed
+abbrev pub renamedRequestAt : (ℕ → ℕ) → (ℕ → ℕ) → List Request → ℕ → Request
+renamedRequestAt to from requests e = renameRequest to from (requestIn requests e)
+
+pub inverted-at : (p : List ℕ) (j : ℕ) → j < 5 → nameIn (inverted p) j ≡ oldName p j
+unfolding inverted
+inverted-at p j h = getD-table 5 (oldName p) j 0 h
+
+pub inverted-inward : (n : ℕ) (p : List ℕ) → n ≤ 5 → isRenaming n p ≡ true → Inward (inverted p)
+inverted-inward n p small f j h = rw (inverted-at p j h) (from-below (renamingOf n small p f) 5 small j h)
+
+-- ---- a renaming reads the way back below five alone
+module _ (to f g : ℕ → ℕ) (e : (j : ℕ) → j < 5 → f j ≡ g j) where
+  isr-cong : (isr : ℕ) → renameIsr f isr ≡ renameIsr g isr
+  unfolding renameIsr
+  isr-cong isr = isrOf-cong (λ j. member isr (f j)) (λ j. member isr (g j)) (λ j h. ap (member isr) (e j h))
+
+  replica-cong : (r : Replica) → renameReplica to f r ≡ renameReplica to g r
+  replica-cong r = rw (isr-cong (r .isr)) refl
+
+  request-cong : (r : Request) → renameRequest to f r ≡ renameRequest to g r
+  request-cong r = rw (isr-cong (r .isr)) refl
+
+  rename-cong : (s : State) → renameState to f s ≡ renameState to g s
+  unfolding renameReplicas
+  rename-cong s =
+      state-path refl refl refl (rw (isr-cong (s .quorum .isr)) refl)
+      (ap (λ (h : Request → Request). map h (s .requests)) (fun-ext request-cong))
+      (table-cong 5 (renamedReplicaAt to f (s .replicas)) (renamedReplicaAt to g (s .replicas))
+      (λ j h. rw (e j h) (replica-cong (replicaIn (s .replicas) (g j)))))
+
+pub by-inverse : (p : List ℕ) (s : State) → renameState (newName p) (nameIn (inverted p)) s ≡ renameState (newName p) (oldName p) s
+by-inverse p s = rename-cong (newName p) (nameIn (inverted p)) (oldName p) (inverted-at p) s
+
+-- the requests, one by one
+requests-by : (to from : ℕ → ℕ) (requests : List Request) → length requests ≡ 16
+    → table 16 (renamedRequestAt to from requests) ≡ map (renameRequest to from) requests
+requests-by to from requests l =
+    sym (map-table zeroRequest 16 (renameRequest to from) requests (renamedRequestAt to from requests) l (λ e h. refl))
+
+-- the parts of the code together
+pub state-by : (p : List ℕ) (s : State) → length (s .requests) ≡ 16
+    → stateOf (s .limits) (nextLeaderEpoch s) (nextRecordId s) (renameQuorum (newName p) (nameIn (inverted p)) (s .quorum))
+    (table 16 (renamedRequestAt (newName p) (nameIn (inverted p)) (s .requests)))
+    (table 5 (renamedReplicaAt (newName p) (nameIn (inverted p)) (s .replicas)))
+    ≡ renameState (newName p) (oldName p) s
+unfolding renameReplicas
+state-by p s l =
+    state-path refl refl refl refl (requests-by (newName p) (nameIn (inverted p)) (s .requests) l) refl ∙ by-inverse p s
+
+-- ---- what renaming answers
+pub rename-broken : (s : State) (p : List ℕ) → (stateRefusal s ≡ accepted → ⊥) → answer (stateRefusal s) s ≡ rename s p
+unfolding rename renameRefusal
+rename-broken s p h =
+    let r = refusal-broken s h in
+    rw (r .1) (answer-other brokenState s (renamed p s) (λ e. omega arith)
+    ∙ ap (λ (k : ℕ). answerBy k s (renamed p s)) (refuse-yes (not (rules s)) brokenState _ (ap not (r .0))))
+
+pub rename-unfit : (s : State) (p : List ℕ) → rules s ≡ true → isRenaming (replicaCount (s .limits)) p ≡ false → answer notRenaming s ≡ rename s p
+unfolding rename renameRefusal
+rename-unfit s p h f =
+    answer-other notRenaming s (renamed p s) (λ e. omega arith)
+    ∙ ap (λ (k : ℕ). answerBy k s (renamed p s))
+    (refuse-yes (not (isRenaming (replicaCount (s .limits)) p)) notRenaming accepted (ap not f) ∙ refuse-no (not (rules s)) brokenState _ (ap not h))
+
+pub rename-fits : (s : State) (p : List ℕ) → rules s ≡ true → isRenaming (replicaCount (s .limits)) p ≡ true → answer accepted (renamed p s) ≡ rename s p
+unfolding rename renameRefusal
+rename-fits s p h f =
+    answer-zero _ s (renamed p s) (refuse-none (not (rules s)) _ _ (ap not h) (refuse-none (not (isRenaming (replicaCount (s .limits)) p)) _ _ (ap not f) refl))

@@ -1,0 +1,37 @@
+// The rows of the table.
+ghost use mathlib.Core.Path.{_≡_};
+ghost use Prim.Native.Nat.{_≤_, _<_};
+ghost use Rattle.renamings.specs.Names.{row, isRenaming};
+use crate::table;
+
+// Row k. The caller shows that there is one.
+pub fn row(k: usize) -> [u8; 5]
+    requires { ⌜ k < 120 ⌝ }
+    ensures { λ r. ⌜ r ≡ row k ⌝ }
+{
+    [
+        table::place(k, 0),
+        table::place(k, 1),
+        table::place(k, 2),
+        table::place(k, 3),
+        table::place(k, 4),
+    ]
+}
+
+// Whether row k is a renaming of n replicas: whether it leaves the places from n on. The caller shows that there are such a row
+// and so many replicas.
+pub fn row_fits(k: usize, n: u8) -> bool
+    requires { ⌜ k < 120 ⌝ }
+    requires { ⌜ n ≤ 5 ⌝ }
+    ensures { λ r. ⌜ r ≡ isRenaming n (row k) ⌝ }
+{
+    let mut i = n as usize;
+    while i < 5 {
+        if table::place(k, i) as usize == i {
+            i = i + 1;
+        } else {
+            return false;
+        }
+    }
+    true
+}
