@@ -122,6 +122,11 @@ pub row-fits : (n k : ℕ) → n ≤ 5 → k < 120 → isRenaming n (row k) ≡ 
 row-fits n k h l =
     same-truth _ _ (all-at 6 (fitsTest k) (all-at 120 (λ j. allBelow 6 (fitsTest j)) (right 3) k l) n (omega arith))
 
+-- the first row leaves every place, so it is a renaming of any number of replicas
+pub first-row : (n : ℕ) → n ≤ 5 → isRenaming n (row 0) ≡ true
+unfolding allBelow concatBelow newName inPlace isNew isRenaming withoutPlace orders rows
+first-row n h = all-at 6 (λ m. isRenaming m (row 0)) refl n (omega arith)
+
 -- ---- what the test of five places says
 pub record Places (n : ℕ) (p : List ℕ) : Type 0 where
   pub within : (i : ℕ) → i < n → i < 5 → newName p i < n

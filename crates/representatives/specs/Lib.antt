@@ -1,0 +1,4 @@
+pub mod Representative
+pub mod RepresentativeTheorems
+pub mod CompareLaws
+pub mod CodeLaws

@@ -1,0 +1,70 @@
+// The representative of a state: the state under the renaming with the least image.
+mod compare;
+
+ghost use mathlib.Core.Path.{_≡_};
+ghost use Prim.Native.Nat.{_<_};
+ghost use Rattle.cluster.specs.State.{replicaCount};
+ghost use Rattle.logic.specs.Least.{better};
+ghost use Rattle.renamings.specs.Names.{isRenaming, row};
+ghost use Rattle.renamings.specs.TidyRenamed.{Met};
+ghost use Rattle.representatives.specs.Representative.{imageUnder, leastRenaming, represent};
+ghost use Rattle.representatives.specs.RepresentativeTheorems.{Renames};
+use cluster::Outcome;
+use cluster::State;
+use parts::refusal::ACCEPTED;
+use renamings::rows;
+
+// How many rows the table has.
+const ROWS: usize = 120;
+
+// Row k where it is a renaming of the state's replicas and gives the lesser image, else the best row so far. The caller shows
+// that the state is tidy and meets the rules, that there are such rows, and that the best one is a renaming.
+fn better(s: State, best: usize, k: usize) -> usize
+    requires { ⌜ Met s ⌝ }
+    requires { ⌜ best < 120 ⌝ }
+    requires { ⌜ k < 120 ⌝ }
+    requires { ⌜ Renames s (row best) ⌝ }
+    ensures { λ r. ⌜ (r < 120) × Renames s (row r) × (row r ≡ better (isRenaming (replicaCount (s .limits))) (imageUnder s) (row best) (row k)) ⌝ }
+{
+    let c = s.limits;
+    if rows::row_fits(k, c.replica_count) {
+        if compare::comes_first(s, rows::row(k), rows::row(best)) {
+            return k;
+        }
+        return best;
+    }
+    best
+}
+
+// The row that gives the least image. The caller shows that the state is tidy and meets the rules.
+fn least_row(s: State) -> usize
+    requires { ⌜ Met s ⌝ }
+    ensures { λ r. ⌜ (r < 120) × Renames s (row r) × (row r ≡ leastRenaming s) ⌝ }
+{
+    let mut best: usize = 0;
+    let mut k: usize = 0;
+    while k < ROWS {
+        best = better(s, best, k);
+        k = k + 1;
+    }
+    best
+}
+
+// The representative of a state, with zeros in its unused room; 1 and the state as given where it breaks a rule.
+pub fn representative(s: State) -> Outcome
+    ensures { λ r. ⌜ r ≡ represent s ⌝ }
+{
+    let broken = s.state_refusal();
+    if broken != ACCEPTED {
+        return Outcome {
+            refusal: broken,
+            state: s,
+        };
+    }
+    let tidy = s.tidy();
+    let least = rows::row(least_row(tidy));
+    Outcome {
+        refusal: ACCEPTED,
+        state: renamings::state::rename_state(tidy, least),
+    }
+}
