@@ -15,11 +15,11 @@ use Rattle.cluster.specs.State.{stateOf, zeroRequest}
 use Rattle.images.specs.Image.{logBytes, requestsBytes, replicaBytes, replicasBytes, image}
 
 -- a replica of that state: it follows 0 at epoch 0
-paperReplica : ℕ → Replica
+unfoldable pub paperReplica : ℕ → Replica
 paperReplica end = replicaOf 0 (pos 0) (Broker 0) 7 end (replicate 16 zeroRecord)
 
 -- the last state of example 1
-pub paperState : State
+unfoldable pub paperState : State
 paperState =
     stateOf (record { «replica_count» = 3; «log_size» = 4; «max_records» = 4; «max_leader_epoch» = 3 }) 1 1
     (record { epoch = pos 0; leader = Broker 0; isr = 7 })

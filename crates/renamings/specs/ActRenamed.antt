@@ -1,13 +1,12 @@
 -- An action of any four bytes on a tidy state that meets the rules: the renamed action on the renamed state gets the same
 -- number, and the state handed back is the first one's, renamed. Assumes nothing.
-use Prim.Native.Nat.{ℕ, zero, suc, _≤_, _<_}
+use Prim.Native.Nat.{ℕ, zero, suc}
 use mathlib.Core.Path.{_≡_, refl, sym, ap, ap₂, _∙_}
-use mathlib.Core.Bool.{Bool, true, false, not, _&&_, cond}
+use mathlib.Core.Bool.{Bool, true, false, not}
 use native.Mathlib.Omega.{arith}
 use native.Mathlib.Nat.{le-refl}
 use native.Mathlib.Decide.{decLt}
 use lib.Dec.{ltb}
-use lib.ListN.{length}
 use borrow.Author.Tests.{lt-ltb, le-ltb}
 use Rattle.logic.specs.Tests.{every-cong}
 use Rattle.logic.specs.Refuse.{refuse}
@@ -22,7 +21,6 @@ use Rattle.cluster.specs.Act.{kindOf, uses, operandBound, operandBounds, operan
 use Rattle.actions.specs.Kept.{step-is-act}
 use Rattle.renamings.specs.Renaming.{Renaming, ltb-to}
 use Rattle.renamings.specs.Rename.{renameState, renameOperand, renameAction}
-use Rattle.renamings.specs.RulesRenamed.{Fits}
 use Rattle.renamings.specs.ActionsRenamed.{refusal-renamed, effect-renamed}
 use Rattle.renamings.specs.TidyRenamed.{Met, at-most-five, fits, met-renamed}
 

@@ -1,27 +1,23 @@
 -- The nine actions under a renaming: the renamed action on the renamed state gets the same number, and its effect is the
 -- renamed effect. Assumes nothing.
-use Prim.Native.Nat.{ℕ, zero, suc, _+_, _≤_, _<_, min}
-use mathlib.Core.Path.{_≡_, refl, sym, ap, ap₂, _∙_}
-use mathlib.Core.Bool.{Bool, true, false, not, _&&_, _||_, cond}
-use mathlib.Core.List.{List, [], _∷_, map}
+use Prim.Native.Nat.{ℕ, _+_, _≤_, min}
+use mathlib.Core.Path.{_≡_, refl, sym, ap, _∙_}
+use mathlib.Core.Bool.{Bool, true, false}
 use native.Mathlib.Nat.{le-refl}
-use lib.Dec.{eqb, ltb, leb}
 use lib.IntN.{ℤ, pos}
-use lib.ListN.{length, getD, set}
-use Rattle.logic.specs.Tests.{allBelow, every-cong}
-use Rattle.logic.specs.Refuse.{refuse}
+use lib.ListN.{length}
+use Rattle.logic.specs.Tests.{every-cong}
 use Rattle.parts.specs.declared.Leader.{Leader}
 use Rattle.parts.specs.declared.Leader.the-variants.{None, Broker}
-use Rattle.parts.specs.Isr.{member, without, including, isAlone}
+use Rattle.parts.specs.Isr.{without, including, isAlone}
 use Rattle.parts.specs.Leader.{names}
-use Rattle.replica.specs.declared.Record.{Record}
 use Rattle.replica.specs.declared.Replica.{Replica}
 use Rattle.replica.specs.Replica.{recordAt, tidyReplica}
 use Rattle.replica.specs.Change.{withHw, withIsr, withEnd, withRequest, append, truncateTo, truncateUnder, becomeFollowerAndTruncateTo}
 use Rattle.cluster.specs.declared.State.{State}
 use Rattle.cluster.specs.declared.Kind.{Kind}
 use Rattle.cluster.specs.declared.Kind.the-variants.{ControllerShrinkIsr, ControllerElectLeader, BecomeLeader, BecomeFollower, LeaderWrite, LeaderShrinkIsr, LeaderExpandIsr, LeaderIncHighWatermark, FollowerReplicate, Unknown}
-use Rattle.cluster.specs.State.{replicaCount, logSize, maxRecords, nextLeaderEpoch, nextRecordId, requestAt, replicaAt, withReplica, withQuorumIsr, withNextRecordId, controllerUpdateIsr}
+use Rattle.cluster.specs.State.{replicaCount, nextLeaderEpoch, nextRecordId, requestAt, replicaAt, withReplica, withQuorumIsr, withNextRecordId, controllerUpdateIsr}
 use Rattle.cluster.specs.Actions.{replicaPresumesLeadership, replicaIsFollowing, isTrueLeader, isFollowerCaughtUp, epochsUsedUp, requestMissing, epochNotAbove, controllerShrinkIsrRefusal, shrinkBy, controllerShrinkIsr, controllerElectLeaderRefusal, controllerElectLeader, leaderRefusal, becomeLeaderRefusal, leadBy, becomeLeader, becomeFollowerRefusal, becomeFollower, becomeFollowerAndTruncateToHw, leaderWriteRefusal, nextRecord, leaderWrite, quorumUpdateLeaderAndIsr, leaderShrinkIsrRefusal, leaderShrinkIsr, leaderExpandIsrRefusal, leaderExpandIsr, memberHasHw, leaderIncHighWatermarkRefusal, leaderIncHighWatermark, followerReplicateRefusal, followerReplicate}
 use Rattle.cluster.specs.Act.{tableRefusal, tableEffect}
 use Rattle.renamings.specs.Renaming.{Renaming, eqb-to, all-to}

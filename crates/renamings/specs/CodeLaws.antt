@@ -10,7 +10,7 @@ use borrow.Author.Tests.{lt-ltb, le-ltb, eq-eqb, ne-eqb}
 use lib.ListN.{length, getD}
 use Rattle.logic.specs.Concat.{concatBelow}
 use Rattle.logic.specs.Table.{table, getD-table, table-cong}
-use Rattle.parts.specs.Isr.{member, isrOf}
+use Rattle.parts.specs.Isr.{member}
 use Rattle.parts.specs.IsrLaws.{below-five, isrOf-cong}
 use Rattle.replica.specs.declared.Replica.{Replica}
 use Rattle.cluster.specs.declared.Request.{Request}

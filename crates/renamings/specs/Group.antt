@@ -4,7 +4,7 @@ use Prim.Native.Nat.{ℕ, suc, _≤_, _<_}
 use mathlib.Core.Path.{_≡_, refl, sym, ap, ap₂, _∙_, fun-ext}
 use mathlib.Core.List.{List, [], _∷_, map}
 use lib.ListN.{getD}
-use Rattle.logic.specs.Table.{table, getD-table, ext-table, table-cong}
+use Rattle.logic.specs.Table.{getD-table, ext-table, table-cong}
 use Rattle.parts.specs.declared.Leader.{Leader}
 use Rattle.parts.specs.declared.Leader.the-variants.{None, Broker}
 use Rattle.parts.specs.Isr.{member, isrOf}
@@ -15,8 +15,8 @@ use Rattle.cluster.specs.declared.Request.{Request}
 use Rattle.cluster.specs.declared.State.{State}
 use Rattle.cluster.specs.State.{zeroRequest, replicaIn, requestAt, replicaAt}
 use Rattle.cluster.specs.Equality.{state-path}
-use Rattle.renamings.specs.Renaming.{Renaming, identity, inverse, compose, from-below}
-use Rattle.renamings.specs.Rename.{renameLeader, renameIsr, renameQuorum, renameRequest, renameReplica, renamedReplicaAt, renameReplicas, renameState}
+use Rattle.renamings.specs.Renaming.{Renaming, inverse, compose, from-below}
+use Rattle.renamings.specs.Rename.{renameLeader, renameIsr, renameRequest, renameReplica, renamedReplicaAt, renameReplicas, renameState}
 use Rattle.renamings.specs.RulesRenamed.{Fits}
 
 -- ---- one after the other

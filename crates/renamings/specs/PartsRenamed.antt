@@ -1,22 +1,22 @@
 -- Leaders, ISRs, replicas and requests under a renaming: what is read of a renamed state is the renamed part of the state, and
 -- what is put into it is the renamed part put there. Assumes nothing.
-use Prim.Native.Nat.{ℕ, zero, suc, _≤_, _<_, _^_}
+use Prim.Native.Nat.{ℕ, zero, suc, _≤_, _<_}
 use mathlib.Core.Path.{_≡_, refl, sym, ap, ap₂, _∙_}
-use mathlib.Core.Bool.{Bool, true, false, not, _&&_, _||_}
+use mathlib.Core.Bool.{Bool, not, _&&_, _||_}
 use mathlib.Core.List.{List, [], _∷_, map}
 use native.Mathlib.Omega.{arith}
 use native.Mathlib.Nat.{le-refl}
 use native.Mathlib.Decide.{decLt, ℕ-discrete}
-use lib.Dec.{eqb, ltb}
+use lib.Dec.{eqb}
 use lib.ListN.{length, getD, set, length-set, List·getD-map, List·getD-eq-default}
 use lib.Seq.{getD-set-same, getD-set-other, set-out}
 use borrow.Author.Tests.{eqb-true, eq-eqb}
-use Rattle.logic.specs.Tests.{allBelow, bool-ext}
+use Rattle.logic.specs.Tests.{bool-ext}
 use Rattle.logic.specs.Table.{table, length-table, getD-table, ext-table}
 use Rattle.parts.specs.declared.Leader.{Leader}
 use Rattle.parts.specs.declared.Leader.the-variants.{None, Broker}
-use Rattle.parts.specs.Isr.{member, fullIsr, isrBelow, isrOf, without, including, noOther, isAlone}
-use Rattle.parts.specs.IsrLaws.{member-past, member-none, member-full, member-isrOf, isrOf-small, isrOf-cong, isrOf-member, isrOf-ext, full-below, below-32}
+use Rattle.parts.specs.Isr.{member, fullIsr, isrOf, without, including, noOther, isAlone}
+use Rattle.parts.specs.IsrLaws.{member-past, member-none, member-full, member-isrOf, isrOf-small, isrOf-cong, isrOf-member, full-below, below-32}
 use Rattle.parts.specs.Leader.{names, sameLeader, leaderBelow, leaderInIsr}
 use Rattle.parts.specs.LeaderLaws.{isr-below-iff}
 use Rattle.replica.specs.declared.Replica.{Replica}

@@ -1,23 +1,22 @@
 -- The five places of a renaming: of one after another, and of the way back. Renamings as five places compose and have
 -- inverses. Assumes nothing.
 use Prim.Native.Nat.{ℕ, _≤_, _<_}
-use mathlib.Core.Path.{_≡_, refl, sym, ap, ap₂, _∙_, fun-ext}
-use mathlib.Core.Bool.{Bool, true, false, not, _&&_, cond}
+use mathlib.Core.Path.{_≡_, sym, ap, ap₂, _∙_, fun-ext}
+use mathlib.Core.Bool.{true, not, cond}
 use mathlib.Core.List.{List}
 use mathlib.Core.Logic.{_↔_}
 use native.Mathlib.Omega.{arith}
 use native.Mathlib.Nat.{le-refl}
 use native.Mathlib.Decide.{decLt}
 use lib.Dec.{eqb, ltb}
-use lib.ListN.{getD}
-use borrow.Author.Tests.{eq-eqb, ne-eqb, lt-ltb, le-ltb, eqb-false}
+use borrow.Author.Tests.{eq-eqb, ne-eqb, lt-ltb, le-ltb}
 use Rattle.logic.specs.Tests.{allBelow, all-by, and-true}
 use Rattle.logic.specs.Table.{table, getD-table}
 use Rattle.cluster.specs.declared.State.{State}
 use Rattle.renamings.specs.Names.{newName, oldName, inPlace, otherThan, isNew, placeFits, isRenaming}
 use Rattle.renamings.specs.Rename.{renameState}
 use Rattle.renamings.specs.Renaming.{Renaming, inverse, compose, to-below, from-below}
-use Rattle.renamings.specs.Rows.{Places, places-of, renamingOf, five, new-name-five, old-name-five}
+use Rattle.renamings.specs.Rows.{renamingOf, five, new-name-five, old-name-five}
 
 -- ---- the five places that hold the new names
 unfoldable pub placesOf : {n : ℕ} → Renaming n → List ℕ

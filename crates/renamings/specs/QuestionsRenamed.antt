@@ -1,26 +1,21 @@
 -- The questions under a renaming: weak and strong ISR hold or fail alike, and the greatest hw of a presuming replica is the
 -- same. Which triple fails first is not claimed: it goes by the names. Assumes nothing.
-use Prim.Native.Nat.{ℕ, _≤_, _<_}
-use mathlib.Core.Path.{_≡_, refl, sym, ap, ap₂, _∙_, subst}
-use mathlib.Core.Bool.{Bool, true, false, not, _&&_, cond}
+use Prim.Native.Nat.{ℕ}
+use mathlib.Core.Path.{_≡_, refl, ap, _∙_, subst}
 use native.Mathlib.Nat.{le-refl}
-use lib.ListN.{length}
 use Rattle.logic.specs.Tests.{bool-ext}
 use Rattle.parts.specs.Isr.{member}
 use Rattle.replica.specs.declared.Replica.{Replica}
-use Rattle.replica.specs.Log.{holdSameRecord}
 use Rattle.cluster.specs.declared.State.{State}
 use Rattle.cluster.specs.State.{replicaCount, replicaAt}
-use Rattle.cluster.specs.Actions.{replicaPresumesLeadership}
 use Rattle.questions.specs.declared.Property.{Property}
 use Rattle.questions.specs.declared.Property.the-variants.{WeakIsr, StrongIsr}
-use Rattle.questions.specs.Isr.{isrAsked, offsetsAsked, differAt, smallestFailure, checkIsr, askIsr}
+use Rattle.questions.specs.Isr.{isrAsked, askIsr}
 use Rattle.questions.specs.IsrTheorems.{Asked, HoldSameRecord, Holds, isr-says}
 use Rattle.questions.specs.Exposed.{presumingHw, exposed}
-use Rattle.renamings.specs.Renaming.{Renaming, inverse, to-below, from-below, greatest-to}
+use Rattle.renamings.specs.Renaming.{Renaming, inverse, to-below, greatest-to}
 use Rattle.renamings.specs.Rename.{renameLeader, renameReplica, renameState}
 use Rattle.renamings.specs.PartsRenamed.{member-renamed, replica-renamed}
-use Rattle.renamings.specs.RulesRenamed.{Fits}
 use Rattle.renamings.specs.TidyRenamed.{Met, at-most-five, fits, met-renamed}
 use Rattle.renamings.specs.Group.{rename-back}
 use Rattle.renamings.specs.ActionsRenamed.{presumes-renamed}

@@ -20,7 +20,6 @@ use Rattle.cluster.specs.declared.Action.{Action}
 use Rattle.cluster.specs.declared.Outcome.{Outcome}
 use Rattle.cluster.specs.State.{replicaCount, nextLeaderEpoch, nextRecordId, replicaIn, stateOf, tidy}
 use Rattle.cluster.specs.Rules.{rules}
-use Rattle.cluster.specs.Fresh.{answer}
 use Rattle.cluster.specs.Act.{kindOf, actionOf, uses, answerBy}
 use Rattle.renamings.specs.Names.{newName, oldName, isRenaming}
 

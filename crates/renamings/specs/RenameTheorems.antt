@@ -1,24 +1,18 @@
 -- Demand 3 of states and actions, for every state that meets the rules and every five places that are a renaming of its
 -- replicas: broker numbers are only names. Assumes nothing.
-use Prim.Native.Nat.{ℕ, _≤_, _<_}
+use Prim.Native.Nat.{ℕ}
 use mathlib.Core.Path.{_≡_, refl, sym, ap, ap₂, _∙_, subst}
-use mathlib.Core.Bool.{Bool, true, false, not}
+use mathlib.Core.Bool.{true}
 use mathlib.Core.List.{List}
-use lib.ListN.{length}
-use borrow.Author.Tests.{not-false}
-use Rattle.logic.specs.Refuse.{refuse-zero, refuse-none}
-use Rattle.parts.specs.Refusal.{accepted}
 use Rattle.parts.specs.Isr.{member}
 use Rattle.cluster.specs.declared.State.{State}
 use Rattle.cluster.specs.declared.Action.{Action}
 use Rattle.cluster.specs.declared.Outcome.{Outcome}
-use Rattle.cluster.specs.State.{replicaCount, replicaAt, Same, tidy}
+use Rattle.cluster.specs.State.{replicaCount, replicaAt, tidy}
 use Rattle.cluster.specs.Rules.{rules}
 use Rattle.cluster.specs.Fresh.{answer}
 use Rattle.cluster.specs.Equality.{same-sym, same-iff-tidy, tidy-same}
-use Rattle.cluster.specs.Act.{answerBy, step, act}
-use Rattle.cluster.specs.ActLaws.{answer-number, answer-zero, answer-other}
-use Rattle.cluster.specs.Predicates.{Rules, rules-iff}
+use Rattle.cluster.specs.Act.{act}
 use Rattle.actions.specs.Kept.{step-kept, step-is-act}
 use Rattle.actions.specs.Answers.{act-same}
 use Rattle.questions.specs.declared.Property.{Property}
@@ -27,13 +21,13 @@ use Rattle.questions.specs.Isr.{askIsr}
 use Rattle.questions.specs.IsrTheorems.{isr-same}
 use Rattle.questions.specs.Exposed.{exposed, exposed-same}
 use Rattle.renamings.specs.Names.{newName, oldName, isRenaming}
-use Rattle.renamings.specs.Rename.{renameIsr, renameReplica, renameState, renameAction, renamed, renameRefusal, rename}
-use Rattle.renamings.specs.Renaming.{Renaming, inverse, compose}
+use Rattle.renamings.specs.Rename.{renameIsr, renameReplica, renameState, renameAction, renamed}
+use Rattle.renamings.specs.Renaming.{Renaming}
 use Rattle.renamings.specs.Rows.{renamingOf}
-use Rattle.renamings.specs.Places.{composed, composed-renaming, composed-state, inverted, inverted-renaming, inverted-state}
+use Rattle.renamings.specs.Places.{composed, composed-state, inverted, inverted-state}
 use Rattle.renamings.specs.PartsRenamed.{member-renamed, replica-renamed}
 use Rattle.renamings.specs.TidyRenamed.{Met, met-tidy, at-most-five, fits, met-renamed}
-use Rattle.renamings.specs.Group.{rename-twice, rename-same, rename-back}
+use Rattle.renamings.specs.Group.{rename-twice, rename-back}
 use Rattle.renamings.specs.ActRenamed.{act-renamed}
 use Rattle.renamings.specs.QuestionsRenamed.{holds-renamed, exposed-renamed}
 
@@ -94,7 +88,7 @@ module _ (s : State) (h : rules s ≡ true) (p : List ℕ) (f : isRenaming (coun
       ∙ subst (λ (o : Outcome). tidy (o .state) ≡ o .state) (step-is-act (tidy s) action (met .rules) (met .tidy))
       (step-kept (tidy s) action (met .rules) (met .tidy) .tidy) in
       let here : act (renameState (newName p) (oldName p) (tidy s)) (renameAction (count s) (newName p) action)
-          ≡ answer (act (tidy s) action .refusal) (renameState (newName p) (oldName p) (act (tidy s) action .state)) =
+      ≡ answer (act (tidy s) action .refusal) (renameState (newName p) (oldName p) (act (tidy s) action .state)) =
       unfold tidy in act-renamed (tidy s) on met action in
       here
       ∙ ap₂ (λ (k : ℕ) (t : State). answer k (renameState (newName p) (oldName p) t)) (sym (equal .0)) (sym state)

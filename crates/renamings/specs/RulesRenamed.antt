@@ -1,36 +1,24 @@
 -- A renamed state meets S1 to S7 exactly where the state does, and zeros in unused room stay zeros. Assumes nothing.
 use Prim.Native.Nat.{ℕ, zero, suc, _≤_, _<_, _^_}
-use mathlib.Core.Path.{_≡_, refl, sym, ap, ap₂, _∙_, subst}
-use mathlib.Core.Bool.{Bool, true, false, not, _&&_, _||_, cond}
-use mathlib.Core.List.{List, [], _∷_, map}
-use native.Mathlib.Omega.{arith}
+use mathlib.Core.Path.{_≡_, refl, sym, ap, ap₂, _∙_}
+use mathlib.Core.Bool.{Bool, not, _&&_, _||_}
 use native.Mathlib.Nat.{le-refl}
-use native.Mathlib.Decide.{decLt}
-use lib.Dec.{eqb, ltb, leb}
+use lib.Dec.{ltb, leb}
 use lib.IntN.{ℤ, pos, negsuc}
 use lib.ListN.{length}
-use borrow.Author.Tests.{lt-ltb, ltb-true, le-ltb}
-use Rattle.logic.specs.Tests.{allBelow, all-cong, bool-ext, every-cong, every-none}
-use Rattle.logic.specs.Table.{table, length-table, getD-table, table-cong, cond-true, cond-false}
+use borrow.Author.Tests.{lt-ltb, ltb-true}
+use Rattle.logic.specs.Tests.{allBelow, all-cong, bool-ext, every-cong}
 use Rattle.parts.specs.declared.Leader.{Leader}
-use Rattle.parts.specs.declared.Leader.the-variants.{None}
-use Rattle.parts.specs.Isr.{member, fullIsr, isrBelow}
-use Rattle.parts.specs.IsrLaws.{below-32, within-iff}
+use Rattle.parts.specs.Isr.{member, isrBelow}
+use Rattle.parts.specs.IsrLaws.{within-iff}
 use Rattle.parts.specs.Epoch.{sameEpoch, lastEpoch}
-use Rattle.parts.specs.Leader.{names, sameLeader}
-use Rattle.replica.specs.declared.Replica.{Replica}
-use Rattle.replica.specs.Replica.{zeroReplica, noReplica, tidyReplica}
 use Rattle.replica.specs.Log.{logInUse, recordAgrees, logsAgree}
-use Rattle.cluster.specs.declared.Limits.{Limits}
-use Rattle.cluster.specs.declared.Quorum.{Quorum}
-use Rattle.cluster.specs.declared.Request.{Request}
 use Rattle.cluster.specs.declared.State.{State}
-use Rattle.cluster.specs.State.{replicaCount, logSize, nextLeaderEpoch, nextRecordId, zeroRequest, requestIn, replicaIn, requestAt, replicaAt, tidyRequestAt, tidyReplicaAt, tidy}
-use Rattle.cluster.specs.Rules.{leaderAndIsrInRange, replicaInRange, replicaInRangeAt, requestInRangeAt, rule1, rule2, quorumMatchesRequest, rule3, requestLeaderInIsr, rule4, replicaMatchesRequest, replicaMeetsS5, replicaMeetsS5At, rule5, logInUseAt, rule6, agreesWithAt, agreesWithAll, agreesAt, rule7, rules}
-use Rattle.cluster.specs.Equality.{state-path}
-use Rattle.renamings.specs.Renaming.{Renaming, inverse, to-below, from-below, ltb-to, all-to}
-use Rattle.renamings.specs.Rename.{renameLeader, renameIsr, renameQuorum, renameRequest, renameReplica, renamedReplicaAt, renameReplicas, renameState}
-use Rattle.renamings.specs.PartsRenamed.{zero-replica-renamed, zero-request-renamed, member-renamed, isr-small, full-renamed, none-renamed, names-renamed, leader-below-renamed, leader-in-isr-renamed, same-leader-renamed, no-leader-renamed, replica-renamed, request-renamed}
+use Rattle.cluster.specs.State.{replicaCount, logSize, nextLeaderEpoch, nextRecordId, requestAt, replicaAt}
+use Rattle.cluster.specs.Rules.{leaderAndIsrInRange, replicaInRange, replicaInRangeAt, requestInRangeAt, rule2, quorumMatchesRequest, rule3, requestLeaderInIsr, rule4, replicaMatchesRequest, replicaMeetsS5, replicaMeetsS5At, rule5, logInUseAt, rule6, agreesWithAt, agreesWithAll, agreesAt, rule7, rules}
+use Rattle.renamings.specs.Renaming.{Renaming, inverse, ltb-to, all-to}
+use Rattle.renamings.specs.Rename.{renameLeader, renameIsr, renameReplica, renameState}
+use Rattle.renamings.specs.PartsRenamed.{member-renamed, isr-small, full-renamed, none-renamed, names-renamed, leader-below-renamed, leader-in-isr-renamed, same-leader-renamed, no-leader-renamed, replica-renamed, request-renamed}
 
 -- five replicas, and each ISR is of five replicas
 pub record Fits (s : State) : Type 0 where

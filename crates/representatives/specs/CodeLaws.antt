@@ -1,18 +1,17 @@
 -- What the code of representatives works with: the images of renamed states in buffers, and the rows. Assumes nothing.
-use Prim.Native.Nat.{ℕ, _+_, _≤_, _<_}
-use mathlib.Core.Path.{_≡_, refl, sym, ap, ap₂, _∙_, subst}
-use mathlib.Core.Bool.{Bool, true, false, cond}
-use mathlib.Core.List.{List, _++_}
+use Prim.Native.Nat.{ℕ, _≤_}
+use mathlib.Core.Path.{_≡_, sym, ap, _∙_}
+use mathlib.Core.Bool.{true}
+use mathlib.Core.List.{List}
 use native.Mathlib.Nat.{zero-add}
 use native.Mathlib.Omega.{arith}
 use lib.ListN.{length, take, drop}
 use lib.Seq.{take-append-seam}
 use Rattle.logic.specs.Table.{cond-true, cond-false}
-use Rattle.logic.specs.Order.{precedes}
 use Rattle.logic.specs.Stores.{Stored, stored-front, stored-length}
 use Rattle.parts.specs.Refusal.{accepted, brokenState}
 use Rattle.cluster.specs.declared.State.{State}
-use Rattle.cluster.specs.State.{replicaCount, tidy}
+use Rattle.cluster.specs.State.{tidy}
 use Rattle.cluster.specs.Rules.{rules, stateRefusal}
 use Rattle.cluster.specs.RuleLaws.{refusal-broken}
 use Rattle.cluster.specs.Fresh.{answer}

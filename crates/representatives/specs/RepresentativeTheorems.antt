@@ -1,13 +1,12 @@
 -- Demand 3 of representatives, for states that meet the rules: a representative is the state under one of its renamings, the
 -- image under every other renaming is equal or greater, and two representatives are equal exactly when some renaming turns
 -- one state into the other. Assumes nothing.
-use Prim.Native.Nat.{ℕ, _≤_, _<_}
+use Prim.Native.Nat.{ℕ, _≤_}
 use mathlib.Core.Path.{_≡_, refl, sym, ap, _∙_, subst, fun-ext}
 use mathlib.Core.Bool.{Bool, true, false}
 use mathlib.Core.List.{List}
 use mathlib.Core.Logic.{_↔_, _⊎_, inl, inr}
 use native.Mathlib.Omega.{arith}
-use lib.ListN.{length}
 use Rattle.logic.specs.Order.{precedes, precedes-antisymmetric}
 use Rattle.logic.specs.Least.{leastFrom, least-at, least-is, same-representative}
 use Rattle.cluster.specs.declared.State.{State}
@@ -22,7 +21,7 @@ use Rattle.renamings.specs.Rename.{renameState, renamed}
 use Rattle.renamings.specs.Rows.{rows-count, first-row, places-of, row-number, five}
 use Rattle.renamings.specs.Places.{composed, composed-renaming, inverted, inverted-renaming, renaming-five, state-five}
 use Rattle.renamings.specs.TidyRenamed.{Met, met-tidy, at-most-five}
-use Rattle.renamings.specs.RenameTheorems.{renamed-meets-rules, renamed-is-tidy, renamed-count, renamed-twice, renamed-back}
+use Rattle.renamings.specs.RenameTheorems.{renamed-meets-rules, renamed-is-tidy, renamed-twice, renamed-back}
 use Rattle.representatives.specs.Representative.{imageUnder, leastRenaming, representative}
 
 -- p is a renaming of the state's replicas
@@ -135,8 +134,7 @@ representatives-equal s t h k =
           (x .0, renames-tidy s (x .0) .1 (x .1), subst (λ (u : State). Same u t) (sym (sym (renamed-tidy s (x .0)) ∙ x .2)) (tidy-same t))),
       (λ x.
           sym (representative-tidy s)
-          ∙ of .1
-          (
+          ∙ of .1 (
             x .0,
             renames-tidy s (x .0) .0 (x .1),
             renamed-tidy s (x .0) ∙ sym (renamed-is-tidy s h (x .0) (x .1)) ∙ same-iff-tidy (renamed (x .0) s) t .0 (x .2),

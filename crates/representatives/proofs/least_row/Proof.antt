@@ -1,10 +1,9 @@
-use Prim.Native.Nat.{_≤_, _<_, _-_}
-use native.Mathlib.Omega.{arith}
-use borrow.Author.Needs.{needs}
-use Prim.Native.Nat.{ℕ}
+use Prim.Native.Nat.{_≤_, _<_, _-_, ℕ, _+_}
 use mathlib.Core.List.{List, []}
+use mathlib.Core.Path.{_≡_, refl, sym, ap, _∙_}
+use native.Mathlib.Omega.{arith}
 use lib.ListN.{drop}
-use Prim.Native.Nat.{_+_, _≤_, _<_, _-_}
+use borrow.Author.Needs.{needs}
 use Rattle.cluster.specs.State.{replicaCount}
 use Rattle.representatives.specs.RepresentativeTheorems.{Renames}
 use Rattle.representatives.specs.Representative.{imageUnder, leastRenaming}
@@ -12,12 +11,8 @@ use Rattle.logic.specs.Least.{leastFrom, least-turn, least-end}
 use Rattle.renamings.specs.TidyRenamed.{Met, at-most-five}
 use Rattle.renamings.specs.Rows.{rows-count, first-row}
 use Rattle.renamings.specs.Names.{isRenaming, rows, row}
-use mathlib.Core.Path.{_≡_, refl, sym, ap, ap₂, _∙_, subst}
 use Rattle.representatives.proofs.least_row.Statement.{statement}
 use Rattle.representatives.proofs.least_row.Tie as tie
-use Rattle.representatives.proofs.least_row.Reads as reads
-use Rattle.representatives.proofs.least_row.Lts as lts
-use Rattle.representatives.proofs.better.Reads as better-reads
 
 abbrev Inv-loop : tie.InvT-loop
 Inv-loop s best₀ k₀ best k =
@@ -26,30 +21,24 @@ Inv-loop s best₀ k₀ best k =
 abbrev μ-loop : tie.MeasureT-loop
 μ-loop s best₀ k₀ best k = 120 - k
 
--- src/lib.rt:46:5
 loop-holds : tie.Need-loop-holds Inv-loop μ-loop
 unfolding leastRenaming
 loop-holds c =
     (c .pre, omega arith, omega arith, first-row (replicaCount (c .args .s .limits)) (at-most-five (c .args .s) (c .pre)), refl)
 
--- src/lib.rt:47:9
 better-requires : tie.Need-better-requires Inv-loop μ-loop
 better-requires c κs = let at = c .before .loop in (at .inv .0, (at .inv .2, (omega arith, at .inv .3)))
 
--- src/lib.rt:48:13
 add-k : tie.Need-add-k Inv-loop μ-loop
 add-k c = search needs
 
--- src/lib.rt:46:5
 loop-less : tie.Need-loop-less Inv-loop μ-loop
 loop-less c = search needs
 
--- src/lib.rt:46:5
 loop-again : tie.Need-loop-again Inv-loop μ-loop
 loop-again c =
     let s = c .before .before .before .args .s in let at = c .before .before .loop in let e = c .better .ensures in (at .inv .0, omega arith, e .0, e .1, at .inv .4 ∙ least-turn (isRenaming (replicaCount (s .limits))) (imageUnder s) (row (at .best)) [] rows (at .k) (omega (arith, rows-count)) ∙ ap (λ (r : List ℕ). leastFrom (isRenaming (replicaCount (s .limits))) (imageUnder s) r (drop (at .k + 1) rows)) (sym (e .2)))
 
--- src/lib.rt:40:1
 returns : tie.Need-returns Inv-loop μ-loop
 returns c =
     let s = c .before .before .args .s in let at = c .before .loop in (at .inv .2, at .inv .3, sym (at .inv .4 ∙ least-end (isRenaming (replicaCount (s .limits))) (imageUnder s) (row (at .best)) rows (at .k) (omega (arith, rows-count))))

@@ -1,52 +1,37 @@
+use mathlib.Core.Path.{sym, ap, _∙_, subst}
+use borrow.Author.Needs.{needs}
 use Rattle.cluster.specs.Rules.{rules}
 use Rattle.renamings.specs.Names.{newName, oldName}
 use Rattle.renamings.specs.Rename.{renameState}
 use Rattle.representatives.specs.Representative.{leastRenaming}
-use Rattle.cluster.specs.declared.State.{State}
 use Rattle.cluster.specs.Unused.{rules-tidy}
 use Rattle.renamings.specs.TidyRenamed.{Met, met-tidy}
 use Rattle.cluster.specs.RuleLaws.{refusal-met}
 use Rattle.representatives.specs.CodeLaws.{represent-broken, represent-met}
-use mathlib.Core.Path.{_≡_, refl, sym, ap, ap₂, _∙_, subst}
-use borrow.Author.Needs.{needs}
 use Rattle.representatives.proofs.representative.Statement.{statement}
 use Rattle.representatives.proofs.representative.Tie as tie
-use Rattle.representatives.proofs.representative.Reads as reads
-use Rattle.representatives.proofs.representative.Lts as lts
-use Rattle.cluster.proofs.State.state_refusal.Reads as state-refusal-reads
-use Rattle.cluster.proofs.State.tidy.Reads as tidy-reads
-use Rattle.renamings.proofs.rows.row.Reads as row-reads
-use Rattle.renamings.proofs.state.rename_state.Reads as rename-state-reads
-use Rattle.representatives.proofs.least_row.Reads as least-row-reads
 
--- src/lib.rt:57:9
 state-refusal-requires : tie.Need-state-refusal-requires
 state-refusal-requires c κs = search needs
 
--- src/lib.rt:59:9
 returns : tie.Need-returns
 returns c =
     let o = c .before .before in rw (c .before .state-refusal .ensures) (represent-broken (o .args .s) (λ e. c .if1 .taken (c .before .state-refusal .ensures ∙ e)))
 
--- src/lib.rt:64:9
 tidy-requires : tie.Need-tidy-requires
 tidy-requires c κs = search needs
 
--- src/lib.rt:65:27
 least-row-requires : tie.Need-least-row-requires
 least-row-requires c κs =
     let o = c .before .before .before in subst Met (sym (c .tidy .ensures)) (met-tidy (o .args .s) (refusal-met (o .args .s) (sym (c .before .before .state-refusal .ensures) ∙ c .before .if1 .left)))
 
--- src/lib.rt:65:9
 row-requires : tie.Need-row-requires
 row-requires c κs = search needs
 
--- src/lib.rt:68:16
 rename-state-requires : tie.Need-rename-state-requires
 rename-state-requires c κs =
     let o = c .before .before .before .before .before in (ap rules (c .before .before .tidy .ensures) ∙ rules-tidy (o .args .s) ∙ refusal-met (o .args .s) (sym (c .before .before .before .before .state-refusal .ensures) ∙ c .before .before .before .if1 .left), rw (c .row .ensures) (c .before .least-row .ensures .1))
 
--- src/lib.rt:54:1
 returns-2 : tie.Need-returns-2
 returns-2 c =
     let o = c .before .before .before .before .before .before in represent-met (o .args .s) _ (c .before .row .result) (refusal-met (o .args .s) (sym (c .before .before .before .before .before .state-refusal .ensures) ∙ c .before .before .before .before .if1 .left)) (c .before .row .ensures ∙ c .before .before .least-row .ensures .2 ∙ ap leastRenaming (c .before .before .before .tidy .ensures)) (c .rename-state .ensures ∙ ap (renameState (newName (c .before .row .result)) (oldName (c .before .row .result))) (c .before .before .before .tidy .ensures))

@@ -1,15 +1,12 @@
+use Prim.Native.Nat.{_≤_, _-_}
+use mathlib.Core.Bool.{true}
+use mathlib.Core.Path.{_≡_, sym, _∙_}
 use native.Mathlib.Omega.{arith}
 use borrow.Author.Needs.{needs}
-use mathlib.Core.Bool.{true}
-use Prim.Native.Nat.{ℕ, _≤_, _-_}
 use Rattle.logic.specs.Tests.{allBelow, all-none, all-more, all-fails, all-done}
 use Rattle.renamings.specs.Names.{placeFits, isRenaming}
-use mathlib.Core.Path.{_≡_, refl, sym, ap, _∙_}
 use Rattle.renamings.proofs.places.is_renaming.Statement.{statement}
 use Rattle.renamings.proofs.places.is_renaming.Tie as tie
-use Rattle.renamings.proofs.places.is_renaming.Reads as reads
-use Rattle.renamings.proofs.places.is_renaming.Lts as lts
-use Rattle.renamings.proofs.places.place_fits.Reads as place-fits-reads
 
 abbrev Inv-loop : tie.InvT-loop
 Inv-loop n p i₀ i = (i ≤ 5) × (allBelow i (placeFits n p) ≡ true)
@@ -17,34 +14,27 @@ Inv-loop n p i₀ i = (i ≤ 5) × (allBelow i (placeFits n p) ≡ true)
 abbrev μ-loop : tie.MeasureT-loop
 μ-loop n p i₀ i = 5 - i
 
--- src/places.rt:87:5
 loop-holds : tie.Need-loop-holds Inv-loop μ-loop
 loop-holds c = (omega arith, all-none (placeFits (c .args .n) (c .args .p)))
 
--- src/places.rt:88:12
 place-fits-requires : tie.Need-place-fits-requires Inv-loop μ-loop
 place-fits-requires c κs = search needs
 
--- src/places.rt:89:17
 add-i : tie.Need-add-i Inv-loop μ-loop
 add-i c = search needs
 
--- src/places.rt:87:5
 loop-less : tie.Need-loop-less Inv-loop μ-loop
 loop-less c = search needs
 
--- src/places.rt:87:5
 loop-again : tie.Need-loop-again Inv-loop μ-loop
 loop-again c =
     let a = c .before .before .before .before .args in let at = c .before .before .before .loop in (omega arith, all-more (at .i) (placeFits (a .n) (a .p)) (at .inv .1) (sym (c .before .place-fits .ensures) ∙ c .if1 .taken))
 
--- src/places.rt:91:13
 returns : tie.Need-returns Inv-loop μ-loop
 unfolding isRenaming
 returns c =
     let a = c .before .before .before .before .args in let at = c .before .before .before .loop in all-fails 5 (at .i) (placeFits (a .n) (a .p)) (c .before .before .loop-test .taken) (sym (c .before .place-fits .ensures) ∙ c .if1 .left)
 
--- src/places.rt:83:1
 returns-2 : tie.Need-returns-2 Inv-loop μ-loop
 unfolding isRenaming
 returns-2 c =

@@ -1,19 +1,14 @@
-use Rattle.renamings.specs.CodeLaws.{new-name-place, new-name-past}
 use borrow.Author.Needs.{needs}
+use Rattle.renamings.specs.CodeLaws.{new-name-place, new-name-past}
 use Rattle.renamings.proofs.places.new_name.Statement.{statement}
 use Rattle.renamings.proofs.places.new_name.Tie as tie
-use Rattle.renamings.proofs.places.new_name.Reads as reads
-use Rattle.renamings.proofs.places.new_name.Lts as lts
 
--- src/places.rt:13:16
 array-read-result : tie.Need-array-read-result
 array-read-result c = search needs
 
--- src/places.rt:13:9
 returns : tie.Need-returns
 returns c = new-name-place (c .before .args .t1) (c .before .args .i) (c .if1 .taken)
 
--- src/places.rt:9:1
 returns-2 : tie.Need-returns-2
 returns-2 c = new-name-past (c .before .args .t1) (c .before .args .i) (c .if1 .left)
 

@@ -1,16 +1,13 @@
-use native.Mathlib.Omega.{arith}
-use borrow.Author.Needs.{needs}
-use lib.Dec.{eqb}
-use mathlib.Core.Bool.{cond}
 use Prim.Native.Nat.{ℕ, _≤_, _-_}
+use mathlib.Core.Bool.{cond}
+use mathlib.Core.Path.{_≡_, refl, ap, _∙_}
+use native.Mathlib.Omega.{arith}
+use lib.Dec.{eqb}
+use borrow.Author.Needs.{needs}
 use Rattle.renamings.specs.CodeLaws.{holder-more}
 use Rattle.renamings.specs.Names.{newName, holder, oldName}
-use mathlib.Core.Path.{_≡_, refl, sym, ap, _∙_}
 use Rattle.renamings.proofs.places.old_name.Statement.{statement}
 use Rattle.renamings.proofs.places.old_name.Tie as tie
-use Rattle.renamings.proofs.places.old_name.Reads as reads
-use Rattle.renamings.proofs.places.old_name.Lts as lts
-use Rattle.renamings.proofs.places.holder.Reads as holder-reads
 
 abbrev Inv-loop : tie.InvT-loop
 Inv-loop p j old₀ i₀ old i = (i ≤ 5) × (old ≡ holder i p j)
@@ -18,29 +15,23 @@ Inv-loop p j old₀ i₀ old i = (i ≤ 5) × (old ≡ holder i p j)
 abbrev μ-loop : tie.MeasureT-loop
 μ-loop p j old₀ i₀ old i = 5 - i
 
--- src/places.rt:35:5
 loop-holds : tie.Need-loop-holds Inv-loop μ-loop
 unfolding holder
 loop-holds c = (omega arith, refl)
 
--- src/places.rt:36:9
 holder-requires : tie.Need-holder-requires Inv-loop μ-loop
 holder-requires c κs = search needs
 
--- src/places.rt:37:13
 add-i : tie.Need-add-i Inv-loop μ-loop
 add-i c = search needs
 
--- src/places.rt:35:5
 loop-less : tie.Need-loop-less Inv-loop μ-loop
 loop-less c = search needs
 
--- src/places.rt:35:5
 loop-again : tie.Need-loop-again Inv-loop μ-loop
 loop-again c =
     let a = c .before .before .before .args in let at = c .before .before .loop in (omega arith, c .holder .ensures ∙ ap (λ (x : ℕ). cond (eqb (newName (a .p) (at .i)) (a .j)) (at .i) x) (at .inv .1) ∙ holder-more (a .p) (at .i) (a .j))
 
--- src/places.rt:30:1
 returns : tie.Need-returns Inv-loop μ-loop
 unfolding oldName
 returns c =

@@ -1,28 +1,20 @@
-use Rattle.renamings.specs.Names.{inPlace, isNew}
 use mathlib.Core.Bool.{Bool, _&&_}
-use mathlib.Core.Path.{_≡_, refl, sym, ap, _∙_}
+use mathlib.Core.Path.{sym, ap, _∙_}
 use borrow.Author.Needs.{needs}
+use Rattle.renamings.specs.Names.{isNew}
 use Rattle.renamings.proofs.places.place_fits.Statement.{statement}
 use Rattle.renamings.proofs.places.place_fits.Tie as tie
-use Rattle.renamings.proofs.places.place_fits.Reads as reads
-use Rattle.renamings.proofs.places.place_fits.Lts as lts
-use Rattle.renamings.proofs.places.in_place.Reads as in-place-reads
-use Rattle.renamings.proofs.places.is_new.Reads as is-new-reads
 
--- src/places.rt:76:8
 in-place-requires : tie.Need-in-place-requires
 in-place-requires c κs = search needs
 
--- src/places.rt:77:9
 is-new-requires : tie.Need-is-new-requires
 is-new-requires c κs = search needs
 
--- src/places.rt:77:9
 returns : tie.Need-returns
 returns c =
     let a = c .before .before .before .args in c .is-new .ensures ∙ ap (λ (b : Bool). b && isNew (a .p) (a .i)) (sym (sym (c .before .before .in-place .ensures) ∙ c .before .if1 .taken))
 
--- src/places.rt:73:1
 returns-2 : tie.Need-returns-2
 returns-2 c =
     let a = c .before .before .args in ap (λ (b : Bool). b && isNew (a .p) (a .i)) (sym (sym (c .before .in-place .ensures) ∙ c .if1 .left))

@@ -1,34 +1,24 @@
-use Rattle.renamings.specs.Names.{row}
-use Rattle.renamings.specs.Rows.{row-numbers}
-use mathlib.Core.Path.{_≡_, refl, sym, ap, _∙_}
+use mathlib.Core.Path.{sym}
 use borrow.Author.Needs.{needs}
+use Rattle.renamings.specs.Rows.{row-numbers}
 use Rattle.renamings.proofs.rows.row.Statement.{statement}
 use Rattle.renamings.proofs.rows.row.Tie as tie
-use Rattle.renamings.proofs.rows.row.Reads as reads
-use Rattle.renamings.proofs.rows.row.Lts as lts
-use Rattle.renamings.proofs.table.place.Reads as place-reads
 
--- src/rows.rt:13:9
 place-requires : tie.Need-place-requires
 place-requires c κs = search needs
 
--- src/rows.rt:14:9
 place-requires-2 : tie.Need-place-requires-2
 place-requires-2 c κs = search needs
 
--- src/rows.rt:15:9
 place-requires-3 : tie.Need-place-requires-3
 place-requires-3 c κs = search needs
 
--- src/rows.rt:16:9
 place-requires-4 : tie.Need-place-requires-4
 place-requires-4 c κs = search needs
 
--- src/rows.rt:17:9
 place-requires-5 : tie.Need-place-requires-5
 place-requires-5 c κs = search needs
 
--- src/rows.rt:8:1
 returns : tie.Need-returns
 returns c =
     let k = c .before .before .before .before .before .args .k in rw (c .before .before .before .before .place .ensures, c .before .before .before .place2 .ensures, c .before .before .place3 .ensures, c .before .place4 .ensures, c .place5 .ensures) (sym (row-numbers k (c .before .before .before .before .before .pre)))

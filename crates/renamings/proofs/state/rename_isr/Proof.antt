@@ -1,85 +1,63 @@
+use borrow.Author.Needs.{needs}
 use Rattle.parts.specs.Isr.{isrOf}
 use Rattle.renamings.specs.Rename.{renameIsr}
-use borrow.Author.Needs.{needs}
 use Rattle.renamings.proofs.state.rename_isr.Statement.{statement}
 use Rattle.renamings.proofs.state.rename_isr.Tie as tie
-use Rattle.renamings.proofs.state.rename_isr.Reads as reads
-use Rattle.renamings.proofs.state.rename_isr.Lts as lts
-use Rattle.renamings.proofs.state.member_bit.Reads as member-bit-reads
 
--- src/state.rt:43:29
 array-read-member-bit : tie.Need-array-read-member-bit
 array-read-member-bit c = search needs
 
--- src/state.rt:43:9
 member-bit-requires : tie.Need-member-bit-requires
 member-bit-requires c κs = search needs
 
--- src/state.rt:44:29
 array-read-member-bit-2 : tie.Need-array-read-member-bit-2
 array-read-member-bit-2 c = search needs
 
--- src/state.rt:44:9
 member-bit-requires-2 : tie.Need-member-bit-requires-2
 member-bit-requires-2 c κs = search needs
 
--- src/state.rt:45:29
 array-read-member-bit-3 : tie.Need-array-read-member-bit-3
 array-read-member-bit-3 c = search needs
 
--- src/state.rt:45:9
 member-bit-requires-3 : tie.Need-member-bit-requires-3
 member-bit-requires-3 c κs = search needs
 
--- src/state.rt:46:29
 array-read-member-bit-4 : tie.Need-array-read-member-bit-4
 array-read-member-bit-4 c = search needs
 
--- src/state.rt:46:9
 member-bit-requires-4 : tie.Need-member-bit-requires-4
 member-bit-requires-4 c κs = search needs
 
--- src/state.rt:47:29
 array-read-member-bit-5 : tie.Need-array-read-member-bit-5
 array-read-member-bit-5 c = search needs
 
--- src/state.rt:47:9
 member-bit-requires-5 : tie.Need-member-bit-requires-5
 member-bit-requires-5 c κs = search needs
 
--- src/state.rt:48:9
 mul-result : tie.Need-mul-result
 mul-result c = search needs
 
--- src/state.rt:48:5
 add-result : tie.Need-add-result
 add-result c = search needs
 
--- src/state.rt:48:17
 mul-result-2 : tie.Need-mul-result-2
 mul-result-2 c = search needs
 
--- src/state.rt:48:5
 add-result-2 : tie.Need-add-result-2
 add-result-2 c = search needs
 
--- src/state.rt:48:25
 mul-result-3 : tie.Need-mul-result-3
 mul-result-3 c = search needs
 
--- src/state.rt:48:5
 add-result-3 : tie.Need-add-result-3
 add-result-3 c = search needs
 
--- src/state.rt:48:33
 mul-result-4 : tie.Need-mul-result-4
 mul-result-4 c = search needs
 
--- src/state.rt:48:5
 add-result-4 : tie.Need-add-result-4
 add-result-4 c = search needs
 
--- src/state.rt:40:1
 returns : tie.Need-returns
 unfolding renameIsr isrOf
 returns c = cc

@@ -1,23 +1,16 @@
+use mathlib.Core.Path.{refl}
 use mir.Facts.{toZ-ofZ}
 use mir.Syntax.{w8}
-use mathlib.Core.Path.{_≡_, refl, sym, ap, _∙_}
 use borrow.Author.Needs.{needs}
 use Rattle.renamings.proofs.state.rename_replica.Statement.{statement}
 use Rattle.renamings.proofs.state.rename_replica.Tie as tie
-use Rattle.renamings.proofs.state.rename_replica.Reads as reads
-use Rattle.renamings.proofs.state.rename_replica.Lts as lts
-use Rattle.renamings.proofs.state.rename_isr.Reads as rename-isr-reads
-use Rattle.renamings.proofs.state.rename_leader.Reads as rename-leader-reads
 
--- src/state.rt:81:17
 rename-leader-requires : tie.Need-rename-leader-requires
 rename-leader-requires c κs = search needs
 
--- src/state.rt:82:14
 rename-isr-requires : tie.Need-rename-isr-requires
 rename-isr-requires c κs = search needs
 
--- src/state.rt:73:1
 returns : tie.Need-returns
 returns c =
     rw (c .before .before .rename-leader .ensures, c .before .rename-isr .ensures, toZ-ofZ {w = w8} {z = c .before .before .before .before .args .q .epoch} (record { sfits = c .struct-told .given .1 .0 .1 })) refl

@@ -1,4 +1,7 @@
+use Prim.Native.Nat.{_≤_, _-_}
+use mathlib.Core.Path.{_≡_, refl, ap, _∙_}
 use native.Mathlib.Omega.{arith}
+use lib.ListN.{set}
 use borrow.Author.Needs.{needs}
 use Rattle.renamings.specs.CodeLaws.{nameIn, Inward}
 use Rattle.renamings.specs.Rename.{renameReplica, renamedReplicaAt}
@@ -6,18 +9,11 @@ use Rattle.renamings.specs.Names.{newName}
 use Rattle.replica.specs.declared.Replica.{Replica}
 use Rattle.cluster.specs.State.{replicaAt, withReplicas}
 use Rattle.replica.specs.Replica.{noReplica}
-use lib.ListN.{set}
-use Prim.Native.Nat.{_≤_, _-_}
 use Rattle.cluster.proofs.Owned.{shaped-of}
 use Rattle.cluster.specs.declared.State.{State}
 use Rattle.logic.specs.Table.{splice, splice-start, fill-turn, fill-end}
-use mathlib.Core.Path.{_≡_, refl, sym, ap, _∙_}
 use Rattle.renamings.proofs.state.rename_replicas.Statement.{statement}
 use Rattle.renamings.proofs.state.rename_replicas.Tie as tie
-use Rattle.renamings.proofs.state.rename_replicas.Reads as reads
-use Rattle.renamings.proofs.state.rename_replicas.Lts as lts
-use Rattle.cluster.proofs.State.replica_at.Reads as replica-at-reads
-use Rattle.renamings.proofs.state.rename_replica.Reads as rename-replica-reads
 
 abbrev Inv-loop : tie.InvT-loop
 Inv-loop p s back t₀ j₀ t j =
@@ -26,46 +22,40 @@ Inv-loop p s back t₀ j₀ t j =
 abbrev μ-loop : tie.MeasureT-loop
 μ-loop p s back t₀ j₀ t j = 5 - j
 
--- src/state.rt:111:5
 loop-holds : tie.Need-loop-holds Inv-loop μ-loop
 loop-holds c =
     let s = c .args .s in let h = shaped-of s _ (c .good .1 .1 .0) .replicas in (omega arith, c .pre, ap (withReplicas s) (splice-start noReplica 5 (renamedReplicaAt (newName (c .args .p)) (nameIn (c .args .t2)) (s .replicas)) (s .replicas) h))
 
--- src/state.rt:112:30
 array-read-replica-at : tie.Need-array-read-replica-at Inv-loop μ-loop
 array-read-replica-at c = search needs
 
--- src/state.rt:112:13
 replica-at-requires : tie.Need-replica-at-requires Inv-loop μ-loop
 replica-at-requires c κs = c .before .loop .inv .1 (c .before .loop .j) (c .loop-test .taken)
 
--- src/state.rt:113:13
 rename-replica-requires : tie.Need-rename-replica-requires Inv-loop μ-loop
 rename-replica-requires c κs = search needs
 
--- src/state.rt:114:9
 mul-block : tie.Need-mul-block Inv-loop μ-loop
 mul-block c = search needs
 
--- src/state.rt:114:9
 element-set-from-block : tie.Need-element-set-from-block Inv-loop μ-loop
 element-set-from-block c = search needs
 
--- src/state.rt:115:13
 add-j : tie.Need-add-j Inv-loop μ-loop
 add-j c = search needs
 
--- src/state.rt:111:5
 loop-less : tie.Need-loop-less Inv-loop μ-loop
 loop-less c = search needs
 
--- src/state.rt:111:5
 loop-again : tie.Need-loop-again Inv-loop μ-loop
 loop-again c =
-    let a = c .before .before .before .before .args in let s = a .s in let at = c .before .before .before .loop in (omega arith, at .inv .1, fill-turn (withReplicas s) (λ (u : State) (v : Replica). withReplicas u (set (u .replicas) (at .j) v)) 5 (at .j) (renamedReplicaAt (newName (a .p)) (nameIn (a .t2)) (s .replicas)) (replicaAt s) (λ l. refl) (omega arith) (at .t) (c .rename-replica .result) (at .inv .2)
-    (c .rename-replica .ensures ∙ ap (renameReplica (newName (a .p)) (nameIn (a .t2))) (c .before .replica-at .ensures)))
+    let a = c .before .before .before .before .args in let s = a .s in let at = c .before .before .before .loop in (
+      omega arith,
+      at .inv .1,
+      fill-turn (withReplicas s) (λ (u : State) (v : Replica). withReplicas u (set (u .replicas) (at .j) v)) 5 (at .j) (renamedReplicaAt (newName (a .p)) (nameIn (a .t2)) (s .replicas)) (replicaAt s) (λ l. refl) (omega arith) (at .t) (c .rename-replica .result) (at .inv .2)
+          (c .rename-replica .ensures ∙ ap (renameReplica (newName (a .p)) (nameIn (a .t2))) (c .before .replica-at .ensures)),
+    )
 
--- src/state.rt:105:1
 returns : tie.Need-returns Inv-loop μ-loop
 returns c =
     let a = c .before .before .args in let s = a .s in fill-end (withReplicas s) 5 (c .before .loop .j) (renamedReplicaAt (newName (a .p)) (nameIn (a .t2)) (s .replicas)) (replicaAt s) (omega arith) (omega arith) (c .before .loop .t) (c .before .loop .inv .2)

@@ -1,36 +1,24 @@
+use borrow.Author.Needs.{needs}
 use Rattle.cluster.specs.State.{replicaCount}
 use Rattle.cluster.specs.RuleLaws.{rules-bounded}
 use Rattle.cluster.proofs.Owned.{shaped-of}
 use Rattle.renamings.specs.CodeLaws.{inverted-inward, state-by}
-use mathlib.Core.Path.{_≡_, refl, sym, ap, _∙_}
-use borrow.Author.Needs.{needs}
 use Rattle.renamings.proofs.state.rename_state.Statement.{statement}
 use Rattle.renamings.proofs.state.rename_state.Tie as tie
-use Rattle.renamings.proofs.state.rename_state.Reads as reads
-use Rattle.renamings.proofs.state.rename_state.Lts as lts
-use Rattle.renamings.proofs.places.inverse.Reads as inverse-reads
-use Rattle.renamings.proofs.state.rename_quorum.Reads as rename-quorum-reads
-use Rattle.renamings.proofs.state.rename_replicas.Reads as rename-replicas-reads
-use Rattle.renamings.proofs.state.rename_requests.Reads as rename-requests-reads
 
--- src/state.rt:127:9
 inverse-requires : tie.Need-inverse-requires
 inverse-requires c κs = search needs
 
--- src/state.rt:129:9
 rename-quorum-requires : tie.Need-rename-quorum-requires
 rename-quorum-requires c κs = search needs
 
--- src/state.rt:130:42
 rename-requests-requires : tie.Need-rename-requests-requires
 rename-requests-requires c κs = search needs
 
--- src/state.rt:130:9
 rename-replicas-requires : tie.Need-rename-replicas-requires
 rename-replicas-requires c κs =
     let o = c .before .before .before .before in rw (c .before .before .before .inverse .ensures) (inverted-inward (replicaCount (o .args .s .limits)) (o .args .p) (rules-bounded (o .args .s) (o .pre .0) .replicas) (o .pre .1))
 
--- src/state.rt:122:1
 returns : tie.Need-returns
 returns c =
     let o = c .before .before .before .before .before in rw (c .rename-replicas .ensures, c .before .rename-requests .ensures, c .before .before .rename-quorum .ensures, c .before .before .before .before .inverse .ensures) (state-by (o .args .p) (o .args .s) (shaped-of (o .args .s) _ (o .good .0) .requests))

@@ -1,26 +1,19 @@
+use borrow.Author.Needs.{needs}
 use Rattle.logic.specs.Concat.{concatBelow}
 use Rattle.renamings.specs.Names.{numbers, rows, orders, withoutPlace}
 use Rattle.renamings.specs.CodeLaws.{numbers-at}
-use mathlib.Core.Path.{_≡_, refl, sym, ap, _∙_}
-use borrow.Author.Needs.{needs}
 use Rattle.renamings.proofs.table.place.Statement.{statement}
 use Rattle.renamings.proofs.table.place.Tie as tie
-use Rattle.renamings.proofs.table.place.Reads as reads
-use Rattle.renamings.proofs.table.place.Lts as lts
 
--- src/table.rt:136:15
 mul-result : tie.Need-mul-result
 mul-result c = search needs
 
--- src/table.rt:136:15
 add-result : tie.Need-add-result
 add-result c = search needs
 
--- src/table.rt:136:5
 array-read-result : tie.Need-array-read-result
 array-read-result c = search needs
 
--- src/table.rt:131:1
 returns : tie.Need-returns
 unfolding numbers rows orders withoutPlace concatBelow
 returns c = numbers-at (c .args .k) (c .args .j) (c .pre .0) (c .pre .1)

@@ -1,68 +1,51 @@
+use mathlib.Core.Path.{sym, ap, ap₂, _∙_}
+use lib.Seq.{length-take-le}
+use borrow.Author.Needs.{needs}
 use Rattle.images.specs.Image.{image}
 use Rattle.logic.specs.Order.{precedes}
-use lib.Seq.{length-take-le}
 use Rattle.representatives.specs.CodeLaws.{under, under-writes, stored-part}
-use mathlib.Core.Path.{_≡_, refl, sym, ap, ap₂, _∙_, subst}
-use borrow.Author.Needs.{needs}
 use Rattle.representatives.proofs.compare.comes_first.Statement.{statement}
 use Rattle.representatives.proofs.compare.comes_first.Tie as tie
-use Rattle.representatives.proofs.compare.comes_first.Reads as reads
-use Rattle.representatives.proofs.compare.comes_first.Lts as lts
-use Rattle.images.proofs.write.put_image.Reads as put-image-reads
-use Rattle.renamings.proofs.state.rename_state.Reads as rename-state-reads
-use Rattle.representatives.proofs.compare.precedes.Reads as precedes-reads
 
--- src/compare.rt:40:38
 slice-aggregate-put-image : tie.Need-slice-aggregate-put-image
 slice-aggregate-put-image c = search needs
 
--- src/compare.rt:40:52
 rename-state-requires : tie.Need-rename-state-requires
 rename-state-requires c κs = search needs
 
--- src/compare.rt:40:9
 put-image-requires : tie.Need-put-image-requires
 put-image-requires c κs =
     let o = c .before .before in under-writes (o .args .s) (c .rename-state .result) (o .args .p) (o .pre .0) (o .pre .1 .0) (c .rename-state .ensures)
 
--- src/compare.rt:41:38
 slice-aggregate-put-image-2 : tie.Need-slice-aggregate-put-image-2
 slice-aggregate-put-image-2 c = search needs
 
--- src/compare.rt:41:52
 rename-state-requires-2 : tie.Need-rename-state-requires-2
 rename-state-requires-2 c κs = search needs
 
--- src/compare.rt:41:9
 put-image-requires-2 : tie.Need-put-image-requires-2
 put-image-requires-2 c κs =
     let o = c .before .before .before .before .before .before in under-writes (o .args .s) (c .rename-state2 .result) (o .args .q) (o .pre .0) (o .pre .1 .1) (c .rename-state2 .ensures)
 
--- src/compare.rt:42:14
 array-share-prefix-under-p : tie.Need-array-share-prefix-under-p
 array-share-prefix-under-p c =
     stored-part (c .before .before .before .before .before .put-image .ensures) (under-writes (c .before .before .before .before .before .before .before .before .args .s) _ (c .before .before .before .before .before .before .before .before .args .p) (c .before .before .before .before .before .before .before .before .pre .0) (c .before .before .before .before .before .before .before .before .pre .1 .0) (c .before .before .before .before .before .before .rename-state .ensures) .1) .0
 
--- src/compare.rt:42:14
 slice-aggregate-precedes : tie.Need-slice-aggregate-precedes
 slice-aggregate-precedes c =
     sym (length-take-le _ _ (stored-part (c .before .before .before .before .before .before .put-image .ensures) (under-writes (c .before .before .before .before .before .before .before .before .before .args .s) _ (c .before .before .before .before .before .before .before .before .before .args .p) (c .before .before .before .before .before .before .before .before .before .pre .0) (c .before .before .before .before .before .before .before .before .before .pre .1 .0) (c .before .before .before .before .before .before .before .rename-state .ensures) .1) .0))
 
--- src/compare.rt:42:29
 array-share-prefix-under-q : tie.Need-array-share-prefix-under-q
 array-share-prefix-under-q c =
     stored-part (c .before .before .put-image2 .ensures) (under-writes (c .before .before .before .before .before .before .before .before .before .args .s) _ (c .before .before .before .before .before .before .before .before .before .args .q) (c .before .before .before .before .before .before .before .before .before .pre .0) (c .before .before .before .before .before .before .before .before .before .pre .1 .1) (c .before .before .before .rename-state2 .ensures) .1) .0
 
--- src/compare.rt:42:29
 slice-aggregate-precedes-2 : tie.Need-slice-aggregate-precedes-2
 slice-aggregate-precedes-2 c =
     sym (length-take-le _ _ (stored-part (c .before .before .before .put-image2 .ensures) (under-writes (c .before .before .before .before .before .before .before .before .before .before .args .s) _ (c .before .before .before .before .before .before .before .before .before .before .args .q) (c .before .before .before .before .before .before .before .before .before .before .pre .0) (c .before .before .before .before .before .before .before .before .before .before .pre .1 .1) (c .before .before .before .before .rename-state2 .ensures) .1) .0))
 
--- src/compare.rt:42:5
 precedes-requires : tie.Need-precedes-requires
 precedes-requires c κs = search needs
 
--- src/compare.rt:32:1
 returns : tie.Need-returns
 returns c =
     let o = c .before .before .before .before .before .before .before .before .before .before .before in
