@@ -65,10 +65,7 @@ fn untidy_replica(s: State) -> State {
     let mut t = s;
     let c = s.limits;
     if c.replica_count < 5 {
-        let none = Record {
-            id: 0,
-            epoch: 0,
-        };
+        let none = Record { id: 0, epoch: 0 };
         let other = Replica {
             hw: 77,
             epoch: 3,
@@ -87,10 +84,7 @@ fn untidy_log(s: State) -> State {
     let mut t = s;
     let mut first = s.replicas[0];
     if first.end < 16 {
-        let other = Record {
-            id: 66,
-            epoch: 5,
-        };
+        let other = Record { id: 66, epoch: 5 };
         first.log[15] = other;
         t.replicas[0] = first;
     }

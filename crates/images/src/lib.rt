@@ -24,6 +24,9 @@ const REPLICA_WIDTH: usize = 5;
 
 const RECORD_WIDTH: usize = 2;
 
+// The most bytes that an image has.
+pub const LONGEST: usize = 227;
+
 // What writing answers: a number, 0 for accepted, and the image's length, which is 0 beside a refusal.
 pub struct Written {
     pub refusal: u8,

@@ -133,7 +133,8 @@ fn put_header(out: &mut [u8], s: State) -> usize
     HEADER_WIDTH
 }
 
-// The image of a state that meets the rules, at the front of the buffer.
+// The image of a state, at the front of the buffer. The caller shows that the state meets the rules, and that the buffer has
+// room for its image.
 pub fn put_image(out: &mut [u8], s: State) -> usize
     requires { ⌜ rules s ≡ true ⌝ }
     requires { ⌜ length (image s) ≤ length (now out) ⌝ }

@@ -8,3 +8,4 @@ pub mod Stores
 pub mod Greatest
 pub mod Order
 pub mod Least
+pub mod Maps

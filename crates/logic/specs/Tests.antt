@@ -41,6 +41,10 @@ pub and-yes : (b : Bool) → b && true ≡ b
 and-yes true = refl
 and-yes false = refl
 
+pub and-no : (b : Bool) → b && false ≡ false
+and-no true = refl
+and-no false = refl
+
 pub or-no : (b : Bool) → b || false ≡ b
 or-no true = refl
 or-no false = refl

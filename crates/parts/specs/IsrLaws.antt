@@ -193,7 +193,7 @@ including-below n isr a h l k =
 
 -- ---- the same as sums and differences of bytes
 -- an ISR is that of any test which names its members
-pub isrOf-ext : (isr : ℕ) (test : ℕ → Bool) → isr < 32 → ((i : ℕ) → member isr i ≡ test i) → isr ≡ isrOf test
+isrOf-ext : (isr : ℕ) (test : ℕ → Bool) → isr < 32 → ((i : ℕ) → member isr i ≡ test i) → isr ≡ isrOf test
 isrOf-ext isr test h f = sym (isrOf-member isr h) ∙ isrOf-cong (member isr) test (λ i l. f i)
 
 pub without-absent : (isr a : ℕ) → isr < 32 → member isr a ≡ false → isr ≡ without isr a

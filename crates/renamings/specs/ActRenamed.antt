@@ -20,9 +20,9 @@ use Rattle.cluster.specs.Fresh.{answer}
 use Rattle.cluster.specs.Act.{kindOf, uses, operandBound, operandBounds, operandsFit, tableRefusal, tableEffect, actionRefusal, effect, answerBy, step, act}
 use Rattle.actions.specs.Kept.{step-is-act}
 use Rattle.renamings.specs.Renaming.{Renaming, ltb-to}
-use Rattle.renamings.specs.Rename.{renameState, renameOperand, renameAction}
+use Rattle.renamings.specs.Rename.{renameState, renameOperand, renameAction, Met}
 use Rattle.renamings.specs.ActionsRenamed.{refusal-renamed, effect-renamed}
-use Rattle.renamings.specs.TidyRenamed.{Met, at-most-five, fits, met-renamed}
+use Rattle.renamings.specs.TidyRenamed.{at-most-five, fits, met-renamed}
 
 -- ---- the table looks at the operands that a kind uses, and at no other
 module _ (s : State) (a b c d e : ℕ) where

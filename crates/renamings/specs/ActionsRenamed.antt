@@ -7,6 +7,7 @@ use native.Mathlib.Nat.{le-refl}
 use lib.IntN.{ℤ, pos}
 use lib.ListN.{length}
 use Rattle.logic.specs.Tests.{every-cong}
+use Rattle.logic.specs.Maps.{map-set}
 use Rattle.parts.specs.declared.Leader.{Leader}
 use Rattle.parts.specs.declared.Leader.the-variants.{None, Broker}
 use Rattle.parts.specs.Isr.{without, including, isAlone}
@@ -22,7 +23,7 @@ use Rattle.cluster.specs.Actions.{replicaPresumesLeadership, replicaIsFollowing
 use Rattle.cluster.specs.Act.{tableRefusal, tableEffect}
 use Rattle.renamings.specs.Renaming.{Renaming, eqb-to, all-to}
 use Rattle.renamings.specs.Rename.{renameLeader, renameIsr, renameRequest, renameReplica, renameState}
-use Rattle.renamings.specs.PartsRenamed.{map-set, member-renamed, without-renamed, including-renamed, alone-renamed, names-renamed, replica-renamed, request-renamed, with-replica-renamed}
+use Rattle.renamings.specs.PartsRenamed.{member-renamed, without-renamed, including-renamed, alone-renamed, names-renamed, replica-renamed, request-renamed, with-replica-renamed}
 
 module _ (s : State) (p : Renaming (replicaCount (s .limits))) (five : replicaCount (s .limits) ≤ 5) (l : length (s .replicas) ≡ 5) where
   abbrev ren : State → State

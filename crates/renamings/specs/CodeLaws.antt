@@ -6,9 +6,10 @@ use mathlib.Core.List.{List, [], _∷_, map}
 use native.Mathlib.Numerals.{add-one}
 use native.Mathlib.Omega.{arith}
 use lib.Dec.{eqb, ltb}
-use borrow.Author.Tests.{lt-ltb, le-ltb, eq-eqb, ne-eqb}
+use borrow.Author.Tests.{lt-ltb, le-ltb, ne-eqb}
 use lib.ListN.{length, getD}
 use Rattle.logic.specs.Concat.{concatBelow}
+use Rattle.logic.specs.Maps.{map-table}
 use Rattle.logic.specs.Table.{table, getD-table, table-cong}
 use Rattle.parts.specs.Isr.{member}
 use Rattle.parts.specs.IsrLaws.{below-five, isrOf-cong}
@@ -17,28 +18,22 @@ use Rattle.cluster.specs.declared.Request.{Request}
 use Rattle.cluster.specs.declared.State.{State}
 use Rattle.logic.specs.Refuse.{refuse-yes, refuse-no, refuse-none}
 use Rattle.parts.specs.Refusal.{accepted, brokenState, notRenaming}
-use Rattle.cluster.specs.State.{replicaCount, nextLeaderEpoch, nextRecordId, zeroRequest, requestIn, replicaIn, stateOf}
+use Rattle.cluster.specs.State.{replicaCount, nextLeaderEpoch, nextRecordId, zeroRequest, replicaIn, stateOf}
 use Rattle.cluster.specs.Rules.{rules, stateRefusal}
 use Rattle.cluster.specs.RuleLaws.{refusal-broken}
 use Rattle.cluster.specs.Fresh.{answer}
 use Rattle.cluster.specs.Act.{answerBy}
 use Rattle.cluster.specs.ActLaws.{answer-zero, answer-other}
 use Rattle.cluster.specs.Equality.{state-path}
-use Rattle.renamings.specs.Names.{newName, holder, oldName, inPlace, isRenaming, withoutPlace, orders, rows, row, numbers}
-use Rattle.renamings.specs.Rename.{renameIsr, renameQuorum, renameRequest, renameReplica, renamedReplicaAt, renameReplicas, renameState, renamed, renameRefusal, rename}
+use Rattle.renamings.specs.Names.{newName, holder, oldName, inverted, nameIn, Inward, inPlace, isRenaming, withoutPlace, orders, rows, row, numbers}
+use Rattle.renamings.specs.Rename.{renameIsr, renamedRequestAt, renameQuorum, renameRequest, renameReplica, renamedReplicaAt, renameReplicas, renameState, renamed, renameRefusal, rename}
 use Rattle.renamings.specs.Renaming.{from-below}
 use Rattle.renamings.specs.Rows.{keepsPlace, rows-count, renamingOf}
-use Rattle.renamings.specs.Places.{inverted}
-use Rattle.renamings.specs.TidyRenamed.{map-table}
 
 -- ---- names
 pub new-name-place : (p : List ℕ) (i : ℕ) → i < 5 → getD p i 0 ≡ newName p i
 unfolding newName
 new-name-place p i h = rw (lt-ltb i 5 h) refl
-
-pub new-name-past : (p : List ℕ) (i : ℕ) → 5 ≤ i → i ≡ newName p i
-unfolding newName
-new-name-past p i h = rw (le-ltb i 5 h) refl
 
 pub holder-more : (p : List ℕ) (i j : ℕ) → cond (eqb (newName p i) j) i (holder i p j) ≡ holder (i + 1) p j
 unfolding holder
@@ -52,10 +47,7 @@ pub in-place-high : (n : ℕ) (p : List ℕ) (i : ℕ) → n ≤ i → eqb (newN
 unfolding inPlace
 in-place-high n p i h = rw (le-ltb i n h) refl
 
--- a place from n on is left exactly where it holds its own number
-pub keeps-yes : (n : ℕ) (p : List ℕ) (i : ℕ) → n ≤ i → newName p i ≡ i → keepsPlace n p i ≡ true
-keeps-yes n p i h e = rw (le-ltb i n h) (eq-eqb (newName p i) i e)
-
+-- a place from n on that holds another number is not left
 pub keeps-no : (n : ℕ) (p : List ℕ) (i : ℕ) → n ≤ i → (newName p i ≡ i → ⊥) → keepsPlace n p i ≡ false
 keeps-no n p i h e = rw (le-ltb i n h) (ne-eqb (newName p i) i e)
 
@@ -93,18 +85,6 @@ numbers-at k j h i =
     ∙ ap (λ (r : List (List ℕ)). getD (getD r k []) j 0) numbers-rows
 
 -- ---- the old names as five numbers
--- what place j of five numbers holds
-abbrev pub nameIn : List ℕ → ℕ → ℕ
-nameIn back j = getD back j 0
-
--- each of them is below five
-abbrev pub Inward : List ℕ → Type 0
-Inward back = (j : ℕ) → j < 5 → nameIn back j < 5
-
--- the request of epoch e, renamed
-abbrev pub renamedRequestAt : (ℕ → ℕ) → (ℕ → ℕ) → List Request → ℕ → Request
-renamedRequestAt to from requests e = renameRequest to from (requestIn requests e)
-
 pub inverted-at : (p : List ℕ) (j : ℕ) → j < 5 → nameIn (inverted p) j ≡ oldName p j
 unfolding inverted
 inverted-at p j h = getD-table 5 (oldName p) j 0 h
@@ -112,7 +92,7 @@ inverted-at p j h = getD-table 5 (oldName p) j 0 h
 pub inverted-inward : (n : ℕ) (p : List ℕ) → n ≤ 5 → isRenaming n p ≡ true → Inward (inverted p)
 inverted-inward n p small f j h = rw (inverted-at p j h) (from-below (renamingOf n small p f) 5 small j h)
 
--- ---- a renaming reads the way back below five alone
+-- ---- a renaming reads its inverse below five alone
 module _ (to f g : ℕ → ℕ) (e : (j : ℕ) → j < 5 → f j ≡ g j) where
   isr-cong : (isr : ℕ) → renameIsr f isr ≡ renameIsr g isr
   unfolding renameIsr

@@ -1,9 +1,8 @@
--- Renamings of a state one after another: first one and then another is one renaming, the identity leaves the state, and the
--- way back leads back. Assumes nothing.
-use Prim.Native.Nat.{ℕ, suc, _≤_, _<_}
-use mathlib.Core.Path.{_≡_, refl, sym, ap, ap₂, _∙_, fun-ext}
-use mathlib.Core.List.{List, [], _∷_, map}
-use lib.ListN.{getD}
+-- Renamings of a state one after another: first one and then another is one renaming, and the inverse leads back. Assumes
+-- nothing.
+use Prim.Native.Nat.{ℕ, _≤_, _<_}
+use mathlib.Core.Path.{_≡_, refl, sym, ap, _∙_, fun-ext}
+use Rattle.logic.specs.Maps.{map-twice, map-same}
 use Rattle.logic.specs.Table.{getD-table, ext-table, table-cong}
 use Rattle.parts.specs.declared.Leader.{Leader}
 use Rattle.parts.specs.declared.Leader.the-variants.{None, Broker}
@@ -24,10 +23,6 @@ leader-twice : (u t : ℕ → ℕ) (leader : Leader) → renameLeader (λ i. u (
 unfolding renameLeader
 leader-twice u t None = refl
 leader-twice u t (Broker b) = refl
-
-map-twice : {A B C : Type 0} (g : B → C) (f : A → B) (h : A → C) → ((x : A) → h x ≡ g (f x)) → (l : List A) → map h l ≡ map g (map f l)
-map-twice g f h e [] = refl
-map-twice g f h e (x ∷ xs) = ap₂ (_∷_) (e x) (map-twice g f h e xs)
 
 module _ {n : ℕ} (p q : Renaming n) (five : n ≤ 5) where
   abbrev both : Renaming n
@@ -74,10 +69,6 @@ leader-same (Broker b) = refl
 isr-same : (isr : ℕ) → isr < 32 → renameIsr same isr ≡ isr
 unfolding renameIsr
 isr-same isr h = isrOf-member isr h
-
-map-same : {A : Type 0} (d : A) (f : A → A) (l : List A) → ((i : ℕ) → f (getD l i d) ≡ getD l i d) → map f l ≡ l
-map-same d f [] h = refl
-map-same d f (x ∷ xs) h = ap₂ (_∷_) (h 0) (map-same d f xs (λ i. h (suc i)))
 
 pub rename-same : (s : State) → Fits s → renameState same same s ≡ s
 unfolding renameReplicas

@@ -1,12 +1,14 @@
 -- Renamings as five places. "A renaming is five places: the first R hold 0 to R-1 once each, the others their own number".
--- n is R, the number of replicas; p is the five places. Assumes nothing.
-use Prim.Native.Nat.{ℕ, zero, suc}
+-- n is R, the number of replicas; p is the five places. Code has no other lists of places than five bytes; in the logic a place
+-- that a list lacks reads 0, and what a list has behind five numbers is not looked at. Assumes nothing.
+use Prim.Native.Nat.{ℕ, zero, suc, _<_}
 use mathlib.Core.Bool.{Bool, not, _&&_, cond}
 use mathlib.Core.List.{List, [], _∷_, map}
 use lib.Dec.{eqb, ltb}
 use lib.ListN.{getD}
 use Rattle.logic.specs.Tests.{allBelow}
 use Rattle.logic.specs.Concat.{concatBelow}
+use Rattle.logic.specs.Table.{table}
 
 -- ---- old names and new ones
 -- p(i), the new name of replica i: what place i holds; a number that has no place stays
@@ -21,6 +23,21 @@ holder (suc k) p j = cond (eqb (newName p k) j) k (holder k p j)
 -- the old name of the replica whose new name is j
 unfoldable pub oldName : List ℕ → ℕ → ℕ
 oldName p j = holder 5 p j
+
+-- the five places of the inverse: they hold the old names
+unfoldable pub inverted : List ℕ → List ℕ
+inverted p = table 5 (oldName p)
+
+-- the five places of first q, then p
+unfoldable pub composed : List ℕ → List ℕ → List ℕ
+composed p q = table 5 (λ i. newName p (newName q i))
+
+-- what place j of five old names holds, and that each of them is below five
+abbrev pub nameIn : List ℕ → ℕ → ℕ
+nameIn back j = getD back j 0
+
+abbrev pub Inward : List ℕ → Type 0
+Inward back = (j : ℕ) → j < 5 → nameIn back j < 5
 
 -- ---- the test of five places
 -- a place below n holds a number below n, any other its own number

@@ -1,9 +1,9 @@
 -- Leaders, ISRs, replicas and requests under a renaming: what is read of a renamed state is the renamed part of the state, and
 -- what is put into it is the renamed part put there. Assumes nothing.
-use Prim.Native.Nat.{ℕ, zero, suc, _≤_, _<_}
+use Prim.Native.Nat.{ℕ, _≤_, _<_}
 use mathlib.Core.Path.{_≡_, refl, sym, ap, ap₂, _∙_}
 use mathlib.Core.Bool.{Bool, not, _&&_, _||_}
-use mathlib.Core.List.{List, [], _∷_, map}
+use mathlib.Core.List.{List, map}
 use native.Mathlib.Omega.{arith}
 use native.Mathlib.Nat.{le-refl}
 use native.Mathlib.Decide.{decLt, ℕ-discrete}
@@ -52,11 +52,6 @@ module _ (to from : ℕ → ℕ) where
   request-in-renamed requests e =
       ap (getD (map (renameRequest to from) requests) e) (sym zero-request-renamed)
       ∙ List·getD-map (renameRequest to from) requests e zeroRequest
-
-pub map-set : {A B : Type 0} (f : A → B) (l : List A) (i : ℕ) (v : A) → map f (set l i v) ≡ set (map f l) i (f v)
-map-set f [] i v = refl
-map-set f (x ∷ xs) zero v = refl
-map-set {A} {B} f (x ∷ xs) (suc i) v = ap {B = List B} (λ t. f x ∷ t) (map-set f xs i v)
 
 module _ {n : ℕ} (p : Renaming n) (five : n ≤ 5) where
   -- ---- ISRs

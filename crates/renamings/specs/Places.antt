@@ -1,22 +1,21 @@
--- The five places of a renaming: of one after another, and of the way back. Renamings as five places compose and have
--- inverses. Assumes nothing.
+-- The five places of a renaming, of one after another, and of the inverse: renamings as five places compose and have inverses.
+-- Assumes nothing.
 use Prim.Native.Nat.{ℕ, _≤_, _<_}
 use mathlib.Core.Path.{_≡_, sym, ap, ap₂, _∙_, fun-ext}
-use mathlib.Core.Bool.{true, not, cond}
+use mathlib.Core.Bool.{true}
 use mathlib.Core.List.{List}
 use mathlib.Core.Logic.{_↔_}
 use native.Mathlib.Omega.{arith}
 use native.Mathlib.Nat.{le-refl}
 use native.Mathlib.Decide.{decLt}
-use lib.Dec.{eqb, ltb}
-use borrow.Author.Tests.{eq-eqb, ne-eqb, lt-ltb, le-ltb}
-use Rattle.logic.specs.Tests.{allBelow, all-by, and-true}
+use borrow.Author.Tests.{lt-ltb, le-ltb}
+use Rattle.logic.specs.Tests.{allBelow}
 use Rattle.logic.specs.Table.{table, getD-table}
 use Rattle.cluster.specs.declared.State.{State}
-use Rattle.renamings.specs.Names.{newName, oldName, inPlace, otherThan, isNew, placeFits, isRenaming}
+use Rattle.renamings.specs.Names.{newName, oldName, inverted, composed, inPlace, isNew, isRenaming}
 use Rattle.renamings.specs.Rename.{renameState}
 use Rattle.renamings.specs.Renaming.{Renaming, inverse, compose, to-below, from-below}
-use Rattle.renamings.specs.Rows.{renamingOf, five, new-name-five, old-name-five}
+use Rattle.renamings.specs.Rows.{distinct-by, renamingOf, five, new-name-five, old-name-five}
 
 -- ---- the five places that hold the new names
 unfoldable pub placesOf : {n : ℕ} → Renaming n → List ℕ
@@ -32,18 +31,14 @@ module _ {n : ℕ} (small : n ≤ 5) (p : Renaming n) where
       ]
 
   pub places-renaming : isRenaming n (placesOf p) ≡ true
-  unfolding isRenaming inPlace isNew
   places-renaming =
-      all-by 5 (placeFits n (placesOf p))
-      (λ i h.
-      and-true {a = inPlace n (placesOf p) i} {b = isNew (placesOf p) i} (rw (new-name-places i) (held i (decLt i n)))
-      (all-by i (otherThan (placesOf p) i)
-      (λ j b. rw (new-name-places i, new-name-places j) (ap not (ne-eqb (p .to i) (p .to j) (λ e. apart i j b e))))))
+      distinct-by n (placesOf p)
+      (record {
+        within = λ i b h. rw (new-name-places i) (to-below p n (le-refl n) i b);
+        others = λ i b h. new-name-places i ∙ p .keeps i b;
+        apart = λ i j h b e. apart i j b (sym (new-name-places i) ∙ e ∙ new-name-places j);
+      })
     where
-      held : (i : ℕ) → Dec (i < n) → cond (ltb i n) (ltb (p .to i) n) (eqb (p .to i) i) ≡ true
-      held i (yes b) = rw (lt-ltb i n b) (lt-ltb (p .to i) n (to-below p n (le-refl n) i b))
-      held i (no b) = rw (le-ltb i n (omega arith)) (eq-eqb (p .to i) i (p .keeps i (omega arith)))
-
       apart : (i j : ℕ) → j < i → p .to i ≡ p .to j → ⊥
       apart i j b e = let z : i ≡ j = sym (p .from-to i) ∙ ap (p .from) e ∙ p .from-to j in omega arith
 
@@ -64,14 +59,7 @@ renaming-five n p = simp new-name-five
 pub state-five : (p : List ℕ) (s : State) → renameState (newName (five p)) (oldName (five p)) s ≡ renameState (newName p) (oldName p) s
 state-five p s = ap₂ (λ (t f : ℕ → ℕ). renameState t f s) (fun-ext (new-name-five p)) (fun-ext (old-name-five p))
 
--- ---- first q, then p
-unfoldable pub composed : List ℕ → List ℕ → List ℕ
-composed p q = table 5 (λ i. newName p (newName q i))
-
--- the way back
-unfoldable pub inverted : List ℕ → List ℕ
-inverted p = table 5 (oldName p)
-
+-- ---- one after the other
 module _ (n : ℕ) (small : n ≤ 5) (p q : List ℕ) (f : isRenaming n p ≡ true) (g : isRenaming n q ≡ true) where
   abbrev both : Renaming n
   both = compose (renamingOf n small p f) (renamingOf n small q g)
@@ -88,6 +76,7 @@ module _ (n : ℕ) (small : n ≤ 5) (p q : List ℕ) (f : isRenaming n p ≡ tr
   unfolding composed placesOf
   composed-state = state-places small both
 
+-- ---- the inverse
 module _ (n : ℕ) (small : n ≤ 5) (p : List ℕ) (f : isRenaming n p ≡ true) where
   abbrev back : Renaming n
   back = inverse (renamingOf n small p f)
@@ -99,6 +88,10 @@ module _ (n : ℕ) (small : n ≤ 5) (p : List ℕ) (f : isRenaming n p ≡ true
   pub inverted-names : (i : ℕ) → newName (inverted p) (newName p i) ≡ i
   unfolding inverted placesOf
   inverted-names i = new-name-places small back (newName p i) ∙ renamingOf n small p f .from-to i
+
+  pub names-inverted : (i : ℕ) → newName p (newName (inverted p) i) ≡ i
+  unfolding inverted placesOf
+  names-inverted i = ap (newName p) (new-name-places small back i) ∙ renamingOf n small p f .to-from i
 
   pub inverted-state : (s : State) → renameState (newName (inverted p)) (oldName (inverted p)) s ≡ renameState (oldName p) (newName p) s
   unfolding inverted placesOf
@@ -113,7 +106,6 @@ pub record HoldsOnce (n : ℕ) (p : List ℕ) : Type 0 where
   pub own : (i : ℕ) → n ≤ i → i < 5 → newName p i ≡ i
 
 pub renaming-iff : (n : ℕ) (p : List ℕ) → n ≤ 5 → isRenaming n p ≡ true ↔ HoldsOnce n p
-unfolding isRenaming inPlace isNew
 renaming-iff n p small = (
   (λ h.
       let r : Renaming n = renamingOf n small p h in
@@ -123,21 +115,11 @@ renaming-iff n p small = (
         once = λ i j k l e. sym (r .from-to i) ∙ ap (oldName p) e ∙ r .from-to j;
         own = λ i k l. r .keeps i k;
       }),
-  (λ r.
-      all-by 5 (placeFits n p)
-      (λ i h.
-      and-true {a = inPlace n p i} {b = isNew p i} (fits r i h (decLt i n)) (all-by i (otherThan p i) (λ j b. ap not (ne-eqb (newName p i) (newName p j) (apart r i j h b)))))),
+  (λ r. distinct-by n p (record { within = λ i b h. r .below i b; others = r .own; apart = λ i j h b e. apart r i j h b e (decLt i n) (decLt j n) })),
 )
   where
-    fits : HoldsOnce n p → (i : ℕ) → i < 5 → Dec (i < n) → cond (ltb i n) (ltb (newName p i) n) (eqb (newName p i) i) ≡ true
-    fits r i h (yes b) = rw (lt-ltb i n b) (lt-ltb (newName p i) n (r .below i b))
-    fits r i h (no b) = rw (le-ltb i n (omega arith)) (eq-eqb (newName p i) i (r .own i (omega arith) h))
-
-    apart : HoldsOnce n p → (i j : ℕ) → i < 5 → j < i → newName p i ≡ newName p j → ⊥
-    apart r i j h b e = by (decLt i n) (decLt j n)
-      where
-        by : Dec (i < n) → Dec (j < n) → ⊥
-        by (yes k) (yes l) = let z = r .once i j k l e in omega arith
-        by (yes k) (no l) = omega arith
-        by (no k) (yes l) = omega (arith, r .own i (omega arith) h, e, r .below j l)
-        by (no k) (no l) = omega (arith, r .own i (omega arith) h, e, r .own j (omega arith) (omega arith))
+    apart : HoldsOnce n p → (i j : ℕ) → i < 5 → j < i → newName p i ≡ newName p j → Dec (i < n) → Dec (j < n) → ⊥
+    apart r i j h b e (yes k) (yes l) = let z = r .once i j k l e in omega arith
+    apart r i j h b e (yes k) (no l) = omega arith
+    apart r i j h b e (no k) (yes l) = omega (arith, r .own i (omega arith) h, e, r .below j l)
+    apart r i j h b e (no k) (no l) = omega (arith, r .own i (omega arith) h, e, r .own j (omega arith) (omega arith))

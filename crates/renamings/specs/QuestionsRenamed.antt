@@ -14,9 +14,9 @@ use Rattle.questions.specs.Isr.{isrAsked, askIsr}
 use Rattle.questions.specs.IsrTheorems.{Asked, HoldSameRecord, Holds, isr-says}
 use Rattle.questions.specs.Exposed.{presumingHw, exposed}
 use Rattle.renamings.specs.Renaming.{Renaming, inverse, to-below, greatest-to}
-use Rattle.renamings.specs.Rename.{renameLeader, renameReplica, renameState}
+use Rattle.renamings.specs.Rename.{renameLeader, renameReplica, renameState, Met}
 use Rattle.renamings.specs.PartsRenamed.{member-renamed, replica-renamed}
-use Rattle.renamings.specs.TidyRenamed.{Met, at-most-five, fits, met-renamed}
+use Rattle.renamings.specs.TidyRenamed.{at-most-five, fits, met-renamed}
 use Rattle.renamings.specs.Group.{rename-back}
 use Rattle.renamings.specs.ActionsRenamed.{presumes-renamed}
 

@@ -1,8 +1,9 @@
 -- A state and an action under a renaming. "It gives replica p(i) the whole block of replica i, and in every leader, every ISR
 -- and every used replica operand below R it puts p(i) for i; all else stays." A renaming is given here by two functions: `to`
--- is p, and `from` the way back. Assumes nothing.
+-- is p, and `from` its inverse. Assumes nothing.
 use Prim.Native.Nat.{ℕ}
-use mathlib.Core.Bool.{Bool, not, _&&_, cond}
+use mathlib.Core.Path.{_≡_}
+use mathlib.Core.Bool.{Bool, true, not, _&&_, cond}
 use mathlib.Core.List.{List, map}
 use lib.Dec.{ltb}
 use Rattle.logic.specs.Table.{table}
@@ -18,7 +19,7 @@ use Rattle.cluster.specs.declared.Request.{Request}
 use Rattle.cluster.specs.declared.State.{State}
 use Rattle.cluster.specs.declared.Action.{Action}
 use Rattle.cluster.specs.declared.Outcome.{Outcome}
-use Rattle.cluster.specs.State.{replicaCount, nextLeaderEpoch, nextRecordId, replicaIn, stateOf, tidy}
+use Rattle.cluster.specs.State.{replicaCount, nextLeaderEpoch, nextRecordId, requestIn, replicaIn, stateOf, tidy}
 use Rattle.cluster.specs.Rules.{rules}
 use Rattle.cluster.specs.Act.{kindOf, actionOf, uses, answerBy}
 use Rattle.renamings.specs.Names.{newName, oldName, isRenaming}
@@ -39,6 +40,10 @@ module _ (to from : ℕ → ℕ) where
 
   abbrev pub renameRequest : Request → Request
   renameRequest q = record { leader = renameLeader to (q .leader); isr = renameIsr from (q .isr) }
+
+  -- the request of epoch e
+  abbrev pub renamedRequestAt : List Request → ℕ → Request
+  renamedRequestAt requests e = renameRequest (requestIn requests e)
 
   -- the whole block of a replica
   abbrev pub renameReplica : Replica → Replica
@@ -73,6 +78,15 @@ renameAction n to action =
 -- the state under p, with zeros in its unused room
 unfoldable pub renamed : List ℕ → State → State
 renamed p s = renameState (newName p) (oldName p) (tidy s)
+
+-- p is a renaming of the state's replicas
+abbrev pub Renames : State → List ℕ → Type 0
+Renames s p = isRenaming (replicaCount (s .limits)) p ≡ true
+
+-- a tidy state that meets the rules
+pub record Met (s : State) : Type 0 where
+  pub rules : rules s ≡ true
+  pub tidy : tidy s ≡ s
 
 -- "else 27 (after 1)"
 unfoldable pub renameRefusal : State → List ℕ → ℕ

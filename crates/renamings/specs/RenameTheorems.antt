@@ -1,14 +1,15 @@
 -- Demand 3 of states and actions, for every state that meets the rules and every five places that are a renaming of its
 -- replicas: broker numbers are only names. Assumes nothing.
-use Prim.Native.Nat.{ℕ}
+use Prim.Native.Nat.{ℕ, _≤_}
 use mathlib.Core.Path.{_≡_, refl, sym, ap, ap₂, _∙_, subst}
 use mathlib.Core.Bool.{true}
 use mathlib.Core.List.{List}
+use mathlib.Core.Logic.{_↔_}
 use Rattle.parts.specs.Isr.{member}
 use Rattle.cluster.specs.declared.State.{State}
 use Rattle.cluster.specs.declared.Action.{Action}
 use Rattle.cluster.specs.declared.Outcome.{Outcome}
-use Rattle.cluster.specs.State.{replicaCount, replicaAt, tidy}
+use Rattle.cluster.specs.State.{nextLeaderEpoch, nextRecordId, requestAt, replicaCount, replicaAt, Same, tidy}
 use Rattle.cluster.specs.Rules.{rules}
 use Rattle.cluster.specs.Fresh.{answer}
 use Rattle.cluster.specs.Equality.{same-sym, same-iff-tidy, tidy-same}
@@ -20,36 +21,44 @@ use Rattle.questions.specs.declared.IsrAnswer.{IsrAnswer}
 use Rattle.questions.specs.Isr.{askIsr}
 use Rattle.questions.specs.IsrTheorems.{isr-same}
 use Rattle.questions.specs.Exposed.{exposed, exposed-same}
-use Rattle.renamings.specs.Names.{newName, oldName, isRenaming}
-use Rattle.renamings.specs.Rename.{renameIsr, renameReplica, renameState, renameAction, renamed}
+use Rattle.renamings.specs.Names.{newName, oldName, inverted, composed}
+use Rattle.renamings.specs.Rename.{renameIsr, renameQuorum, renameRequest, Renames, renameReplica, renameState, renameAction, renamed, Met}
 use Rattle.renamings.specs.Renaming.{Renaming}
 use Rattle.renamings.specs.Rows.{renamingOf}
-use Rattle.renamings.specs.Places.{composed, composed-state, inverted, inverted-state}
-use Rattle.renamings.specs.PartsRenamed.{member-renamed, replica-renamed}
-use Rattle.renamings.specs.TidyRenamed.{Met, met-tidy, at-most-five, fits, met-renamed}
+use Rattle.renamings.specs.Places.{composed-state, inverted-state}
+use Rattle.renamings.specs.PartsRenamed.{member-renamed, replica-renamed, request-renamed}
+use Rattle.renamings.specs.TidyRenamed.{met-tidy, at-most-five, fits, met-renamed}
 use Rattle.renamings.specs.Group.{rename-twice, rename-back}
 use Rattle.renamings.specs.ActRenamed.{act-renamed}
 use Rattle.renamings.specs.QuestionsRenamed.{holds-renamed, exposed-renamed}
 
--- the number of replicas
-abbrev count : State → ℕ
-count s = replicaCount (s .limits)
+-- ---- unused room and the rest of a state do not count for what is a renaming
+pub renames-tidy : (s : State) (p : List ℕ) → Renames s p ↔ Renames (tidy s) p
+unfolding tidy
+renames-tidy s p = ((λ f. f), (λ f. f))
 
--- ---- of tidy states that meet the rules
-abbrev renamingOn : (s : State) → Met s → (p : List ℕ) → isRenaming (count s) p ≡ true → Renaming (count s)
-renamingOn s m p f = renamingOf (count s) (at-most-five s m) p f
+pub renames-renamed : (s : State) (p q : List ℕ) → Renames s q ↔ Renames (renamed p s) q
+unfolding renamed tidy
+renames-renamed s p q = ((λ f. f), (λ f. f))
+
+-- equal states are equal under every renaming
+pub renamed-same : (s t : State) (p : List ℕ) → Same s t → renamed p s ≡ renamed p t
+unfolding renamed
+renamed-same s t p m = ap (renameState (newName p) (oldName p)) (same-iff-tidy s t .0 m)
 
 -- ---- of any state that meets the rules, by its tidy form
-fits-tidy : (s : State) (p : List ℕ) → isRenaming (count s) p ≡ true → isRenaming (count (tidy s)) p ≡ true
-unfolding tidy
-fits-tidy s p f = f
-
-module _ (s : State) (h : rules s ≡ true) (p : List ℕ) (f : isRenaming (count s) p ≡ true) where
+module _ (s : State) (h : rules s ≡ true) (p : List ℕ) (f : Renames s p) where
   met : Met (tidy s)
   met = met-tidy s h
 
-  abbrev on : Renaming (count (tidy s))
-  on = renamingOn (tidy s) met p (fits-tidy s p f)
+  small : replicaCount (tidy s .limits) ≤ 5
+  small = at-most-five (tidy s) met
+
+  abbrev renamingBy : (q : List ℕ) → Renames s q → Renaming (replicaCount (tidy s .limits))
+  renamingBy q g = renamingOf (replicaCount (tidy s .limits)) small q (renames-tidy s q .0 g)
+
+  abbrev on : Renaming (replicaCount (tidy s .limits))
+  on = renamingBy p f
 
   under : Met (renamed p s)
   unfolding renamed
@@ -63,23 +72,33 @@ module _ (s : State) (h : rules s ≡ true) (p : List ℕ) (f : isRenaming (coun
   pub renamed-is-tidy : tidy (renamed p s) ≡ renamed p s
   renamed-is-tidy = under .tidy
 
-  pub renamed-count : count (renamed p s) ≡ count s
+  -- R, L, M, X, next epoch and next id stay
+  pub renamed-rest : (renamed p s .limits ≡ s .limits) × (nextLeaderEpoch (renamed p s) ≡ nextLeaderEpoch s) × (nextRecordId (renamed p s) ≡ nextRecordId s)
   unfolding renamed tidy
-  renamed-count = refl
+  renamed-rest = (refl, refl, refl)
+
+  -- the quorum and each request are renamed
+  pub renamed-quorum : renamed p s .quorum ≡ renameQuorum (newName p) (oldName p) (s .quorum)
+  unfolding renamed tidy
+  renamed-quorum = refl
+
+  pub renamed-request : (e : ℕ) → requestAt (renamed p s) e ≡ renameRequest (newName p) (oldName p) (requestAt (tidy s) e)
+  unfolding renamed
+  renamed-request = request-renamed on small (tidy s)
 
   -- "It gives replica p(i) the whole block of replica i"
   pub renamed-block : (i : ℕ) → replicaAt (renamed p s) (newName p i) ≡ renameReplica (newName p) (oldName p) (replicaAt (tidy s) i)
   unfolding renamed
-  renamed-block i = replica-renamed on (at-most-five (tidy s) met) (tidy s) i (fits (tidy s) met .five)
+  renamed-block i = replica-renamed on small (tidy s) i (fits (tidy s) met .five)
 
   -- "in every ISR .. it puts p(i) for i"
   pub renamed-member : (isr i : ℕ) → member (renameIsr (oldName p) isr) (newName p i) ≡ member isr i
-  renamed-member = member-renamed on (at-most-five (tidy s) met)
+  renamed-member = member-renamed on small
 
   -- an action of any four bytes: the renamed action on the renamed state gets the same number, and the state handed back is
   -- the first one's, renamed
   pub renamed-act : (action : Action)
-      → act (renamed p s) (renameAction (count s) (newName p) action) ≡ answer (act s action .refusal) (renamed p (act s action .state))
+      → act (renamed p s) (renameAction (replicaCount (s .limits)) (newName p) action) ≡ answer (act s action .refusal) (renamed p (act s action .state))
   unfolding renamed
   renamed-act action =
       let equal = act-same s (tidy s) (same-sym (tidy s) s (tidy-same s)) action in
@@ -87,7 +106,7 @@ module _ (s : State) (h : rules s ≡ true) (p : List ℕ) (f : isRenaming (coun
       same-iff-tidy (act s action .state) (act (tidy s) action .state) .0 (equal .1)
       ∙ subst (λ (o : Outcome). tidy (o .state) ≡ o .state) (step-is-act (tidy s) action (met .rules) (met .tidy))
       (step-kept (tidy s) action (met .rules) (met .tidy) .tidy) in
-      let here : act (renameState (newName p) (oldName p) (tidy s)) (renameAction (count s) (newName p) action)
+      let here : act (renameState (newName p) (oldName p) (tidy s)) (renameAction (replicaCount (s .limits)) (newName p) action)
       ≡ answer (act (tidy s) action .refusal) (renameState (newName p) (oldName p) (act (tidy s) action .state)) =
       unfold tidy in act-renamed (tidy s) on met action in
       here
@@ -102,21 +121,20 @@ module _ (s : State) (h : rules s ≡ true) (p : List ℕ) (f : isRenaming (coun
   -- the greatest hw of a presuming replica is the same
   pub renamed-exposed : exposed (renamed p s) ≡ exposed s
   unfolding renamed
-  renamed-exposed = exposed-renamed (tidy s) on met ∙ exposed-same (tidy s) s (at-most-five (tidy s) met) (tidy-same s)
+  renamed-exposed = exposed-renamed (tidy s) on met ∙ exposed-same (tidy s) s small (tidy-same s)
 
-  -- the way back
+  -- there and back
   pub renamed-back : renamed (inverted p) (renamed p s) ≡ tidy s
   unfolding renamed
   renamed-back =
       ap (renameState (newName (inverted p)) (oldName (inverted p))) (under .tidy)
-      ∙ inverted-state (count (tidy s)) (at-most-five (tidy s) met) p (fits-tidy s p f) (renameState (newName p) (oldName p) (tidy s))
-      ∙ rename-back on (at-most-five (tidy s) met) (tidy s) (fits (tidy s) met)
+      ∙ inverted-state (replicaCount (tidy s .limits)) small p (renames-tidy s p .0 f) (renameState (newName p) (oldName p) (tidy s))
+      ∙ rename-back on small (tidy s) (fits (tidy s) met)
 
   -- another renaming after it
-  pub renamed-twice : (q : List ℕ) → isRenaming (count s) q ≡ true → renamed q (renamed p s) ≡ renamed (composed q p) s
+  pub renamed-twice : (q : List ℕ) → Renames s q → renamed q (renamed p s) ≡ renamed (composed q p) s
   unfolding renamed
   renamed-twice q g =
-      let small = at-most-five (tidy s) met in
       ap (renameState (newName q) (oldName q)) (under .tidy)
-      ∙ sym (rename-twice (renamingOn (tidy s) met q (fits-tidy s q g)) on small (tidy s))
-      ∙ sym (composed-state (count (tidy s)) small q p (fits-tidy s q g) (fits-tidy s p f) (tidy s))
+      ∙ sym (rename-twice (renamingBy q g) on small (tidy s))
+      ∙ sym (composed-state (replicaCount (tidy s .limits)) small q p (renames-tidy s q .0 g) (renames-tidy s p .0 f) (tidy s))

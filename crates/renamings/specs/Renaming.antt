@@ -1,7 +1,7 @@
 -- A renaming of n replicas as two functions that undo one another and leave every number from n on. Renamings have
 -- inverses and compose; tests and maxima over the replicas are the same after a renaming. Assumes nothing.
 use Prim.Native.Nat.{ℕ, _≤_, _<_}
-use mathlib.Core.Path.{_≡_, refl, sym, ap, _∙_, subst}
+use mathlib.Core.Path.{_≡_, sym, ap, _∙_, subst}
 use mathlib.Core.Bool.{Bool}
 use native.Mathlib.Omega.{arith}
 use native.Mathlib.Nat.{le-antisymm}
@@ -18,11 +18,6 @@ pub record Renaming (n : ℕ) : Type 0 where
   pub from-to : (i : ℕ) → from (to i) ≡ i
   pub keeps : (i : ℕ) → n ≤ i → to i ≡ i
 
--- the renaming that leaves every number
-abbrev pub identity : {n : ℕ} → Renaming n
-identity = record { to = λ i. i; from = λ i. i; to-from = λ i. refl; from-to = λ i. refl; keeps = λ i h. refl }
-
--- the way back
 abbrev pub inverse : {n : ℕ} → Renaming n → Renaming n
 inverse p =
     record {

@@ -1,20 +1,20 @@
 -- The 120 rows of the table: one test that is computed shows that each is a renaming of five places, that they rise, so that no
 -- row stands twice, and that every renaming is a row. From it, each list of five places that passes the test of a renaming
--- of n replicas is a renaming: it has a way back. Assumes nothing.
+-- of n replicas is a renaming: it has an inverse. Assumes nothing.
 use Prim.Native.Nat.{ℕ, zero, suc, _+_, _*_, _-_, _≤_, _<_}
 use mathlib.Core.Path.{_≡_, refl, sym, ap, ap₂, _∙_, subst}
-use mathlib.Core.Bool.{Bool, true, false, _&&_, _||_, cond}
+use mathlib.Core.Bool.{Bool, true, false, not, _&&_, _||_, cond}
 use mathlib.Core.List.{List, [], _∷_}
 use native.Mathlib.Omega.{arith}
 use native.Mathlib.Decide.{decLt, ℕ-discrete}
 use lib.Dec.{eqb, ltb}
 use lib.ListN.{length, getD, List·getD-eq-default}
-use borrow.Author.Tests.{eqb-true, ltb-true, lt-ltb, le-ltb, ne-eqb, not-true}
-use Rattle.logic.specs.Tests.{allBelow, all-at, every, every-at, and-left, and-right, sameTruth, same-truth, true-false}
+use borrow.Author.Tests.{eq-eqb, eqb-false, eqb-true, ltb-true, lt-ltb, le-ltb, ne-eqb, not-true}
+use Rattle.logic.specs.Tests.{allBelow, all-at, all-by, and-true, bool-ext, every, every-at, and-left, and-right, true-false}
 use Rattle.logic.specs.Concat.{concatBelow}
 use Rattle.parts.specs.IsrLaws.{below-five}
 use Rattle.renamings.specs.Names.{newName, holder, oldName, inPlace, otherThan, isNew, placeFits, isRenaming, withoutPlace, orders, rows, row}
-use Rattle.logic.specs.Order.{precedes, precedes-irreflexive, precedes-onward}
+use Rattle.logic.specs.Order.{precedes, precedes-irreflexive, precedes-transitive}
 use Rattle.renamings.specs.Renaming.{Renaming}
 
 -- ---- the test of the table
@@ -32,7 +32,7 @@ sameNumbers [] (y ∷ ys) = false
 sameNumbers (x ∷ xs) [] = false
 sameNumbers (x ∷ xs) (y ∷ ys) = eqb x y && sameNumbers xs ys
 
--- row k is a renaming of five places, has a way back, and has five numbers
+-- row k is a renaming of five places, has an inverse, and has five numbers
 abbrev rowTests : ℕ → List Bool
 rowTests k = isRenaming 5 (row k) ∷ allBelow 5 (comesBack (row k)) ∷ sameNumbers (row k) (five (row k)) ∷ []
 
@@ -43,14 +43,11 @@ rowTest k = every (rowTests k)
 abbrev rises : ℕ → Bool
 rises k = precedes (row k) (row (suc k))
 
--- for n replicas, row k is a renaming where it leaves each place from n on
+-- place i, where it is not below n, holds its own number
 abbrev pub keepsPlace : ℕ → List ℕ → ℕ → Bool
 keepsPlace n p i = ltb i n || eqb (newName p i) i
 
-abbrev fitsTest : ℕ → ℕ → Bool
-fitsTest k n = sameTruth (isRenaming n (row k)) (allBelow 5 (keepsPlace n (row k)))
-
--- how many numbers before it are smaller
+-- 1 where x is smaller than y, else 0
 less : ℕ → ℕ → ℕ
 less x y = cond (ltb x y) 1 0
 
@@ -82,12 +79,11 @@ tableTests =
     allBelow 120 rowTest
     ∷ allBelow 119 rises
     ∷ complete
-    ∷ allBelow 120 (λ k. allBelow 6 (fitsTest k))
     ∷ eqb (length rows) 120
     ∷ []
 
 table-right : every tableTests ≡ true
-unfolding every allBelow concatBelow sameTruth newName holder oldName inPlace isNew isRenaming withoutPlace orders rows precedes
+unfolding every allBelow concatBelow newName holder oldName inPlace isNew isRenaming withoutPlace orders rows precedes
     less rank sameNumbers complete
 table-right = refl
 
@@ -95,7 +91,7 @@ right : (k : ℕ) → getD tableTests k true ≡ true
 right = every-at tableTests table-right
 
 pub rows-count : length rows ≡ 120
-rows-count = eqb-true (length rows) 120 (right 4)
+rows-count = eqb-true (length rows) 120 (right 3)
 
 -- ---- each row is a renaming of five places
 pub row-renaming : (k : ℕ) → k < 120 → isRenaming 5 (row k) ≡ true
@@ -110,39 +106,87 @@ rows-rise i zero h l = absurd (omega arith)
 rows-rise i (suc j) h l =
     elim (ℕ-discrete i j) [
       | yes e ↦ rw e (next-rises j l)
-      | no e ↦ precedes-onward (row i) (row j) (row (suc j)) (rows-rise i j (omega arith) (omega arith)) (next-rises j l)
+      | no e ↦ precedes-transitive (row i) (row j) (row (suc j)) (rows-rise i j (omega arith) (omega arith)) (next-rises j l)
     ]
 
 pub no-row-twice : (i j : ℕ) → i < j → j < 120 → row i ≡ row j → ⊥
 no-row-twice i j h l e =
     true-false (sym (rows-rise i j h l) ∙ ap (λ (r : List ℕ). precedes r (row j)) e ∙ precedes-irreflexive (row j))
 
--- ---- for n replicas, a row that leaves each place from n on is a renaming, and no other row is
-pub row-fits : (n k : ℕ) → n ≤ 5 → k < 120 → isRenaming n (row k) ≡ allBelow 5 (keepsPlace n (row k))
-row-fits n k h l =
-    same-truth _ _ (all-at 6 (fitsTest k) (all-at 120 (λ j. allBelow 6 (fitsTest j)) (right 3) k l) n (omega arith))
-
--- the first row leaves every place, so it is a renaming of any number of replicas
-pub first-row : (n : ℕ) → n ≤ 5 → isRenaming n (row 0) ≡ true
-unfolding allBelow concatBelow newName inPlace isNew isRenaming withoutPlace orders rows
-first-row n h = all-at 6 (λ m. isRenaming m (row 0)) refl n (omega arith)
-
--- ---- what the test of five places says
-pub record Places (n : ℕ) (p : List ℕ) : Type 0 where
+-- ---- what the test of five places says, each way
+pub record Distinct (n : ℕ) (p : List ℕ) : Type 0 where
   pub within : (i : ℕ) → i < n → i < 5 → newName p i < n
   pub others : (i : ℕ) → n ≤ i → i < 5 → newName p i ≡ i
-  pub apart : (i j : ℕ) → i < 5 → j < i → eqb (newName p i) (newName p j) ≡ false
+  pub apart : (i j : ℕ) → i < 5 → j < i → newName p i ≡ newName p j → ⊥
 
-pub places-of : (n : ℕ) (p : List ℕ) → isRenaming n p ≡ true → Places n p
-unfolding isRenaming inPlace isNew
-places-of n p e =
-    let h : (i : ℕ) → i < 5 → placeFits n p i ≡ true = all-at 5 (placeFits n p) e in
-    let held : (i : ℕ) → i < 5 → inPlace n p i ≡ true = λ i f. and-left (inPlace n p i) (isNew p i) (h i f) in
-    record {
-      within = λ i b f. ltb-true (newName p i) n (rw (lt-ltb i n b) at (held i f));
-      others = λ i b f. eqb-true (newName p i) i (rw (le-ltb i n b) at (held i f));
-      apart = λ i j f b. not-true (eqb (newName p i) (newName p j)) (all-at i (otherThan p i) (and-right (inPlace n p i) (isNew p i) (h i f)) j b);
-    }
+module _ (n : ℕ) (p : List ℕ) where
+  pub distinct-of : isRenaming n p ≡ true → Distinct n p
+  unfolding isRenaming inPlace isNew
+  distinct-of e =
+      let h : (i : ℕ) → i < 5 → placeFits n p i ≡ true = all-at 5 (placeFits n p) e in
+      let held : (i : ℕ) → i < 5 → inPlace n p i ≡ true = λ i f. and-left (inPlace n p i) (isNew p i) (h i f) in
+      record {
+        within = λ i b f. ltb-true (newName p i) n (rw (lt-ltb i n b) at (held i f));
+        others = λ i b f. eqb-true (newName p i) i (rw (le-ltb i n b) at (held i f));
+        apart = λ i j f b. eqb-false (newName p i) (newName p j) (not-true _ (all-at i (otherThan p i) (and-right (inPlace n p i) (isNew p i) (h i f)) j b));
+      }
+
+  pub distinct-by : Distinct n p → isRenaming n p ≡ true
+  unfolding isRenaming inPlace isNew
+  distinct-by d =
+      all-by 5 (placeFits n p)
+      (λ i h.
+      and-true {a = inPlace n p i} {b = isNew p i} (held i h (decLt i n))
+      (all-by i (otherThan p i) (λ j b. ap not (ne-eqb (newName p i) (newName p j) (d .apart i j h b)))))
+    where
+      held : (i : ℕ) → i < 5 → Dec (i < n) → cond (ltb i n) (ltb (newName p i) n) (eqb (newName p i) i) ≡ true
+      held i h (yes b) = rw (lt-ltb i n b) (lt-ltb (newName p i) n (d .within i b h))
+      held i h (no b) = rw (le-ltb i n (omega arith)) (eq-eqb (newName p i) i (d .others i (omega arith) h))
+
+-- ---- for n replicas, a row that leaves each place from n on is a renaming, and no other row is
+pub keeps-own : (n : ℕ) (p : List ℕ) (i : ℕ) → newName p i ≡ i → keepsPlace n p i ≡ true
+keeps-own n p i e = rw (eq-eqb (newName p i) i e) (go (ltb i n))
+  where
+    go : (b : Bool) → b || true ≡ true
+    go true = refl
+    go false = refl
+
+pub row-fits : (n k : ℕ) → n ≤ 5 → k < 120 → isRenaming n (row k) ≡ allBelow 5 (keepsPlace n (row k))
+row-fits n k small l =
+    bool-ext (isRenaming n (row k)) (allBelow 5 (keepsPlace n (row k)))
+    (λ e. all-by 5 (keepsPlace n (row k)) (λ i h. there (distinct-of n (row k) e) i h (decLt i n)))
+    (λ e.
+    distinct-by n (row k)
+    (record {
+      within = λ i b h. back e i b h (decLt (newName (row k) i) n);
+      others = λ i b h. own e i b h;
+      apart = all .apart;
+    }))
+  where
+    all : Distinct 5 (row k)
+    all = distinct-of 5 (row k) (row-renaming k l)
+
+    there : Distinct n (row k) → (i : ℕ) → i < 5 → Dec (i < n) → keepsPlace n (row k) i ≡ true
+    there d i h (yes b) = rw (lt-ltb i n b) refl
+    there d i h (no b) = keeps-own n (row k) i (d .others i (omega arith) h)
+
+    own : allBelow 5 (keepsPlace n (row k)) ≡ true → (i : ℕ) → n ≤ i → i < 5 → newName (row k) i ≡ i
+    own e i b h = eqb-true (newName (row k) i) i (rw (le-ltb i n b) at (all-at 5 (keepsPlace n (row k)) e i h))
+
+    back : allBelow 5 (keepsPlace n (row k)) ≡ true → (i : ℕ) → i < n → i < 5 → Dec (newName (row k) i < n) → newName (row k) i < n
+    back e i b h (yes d) = d
+    back e i b h (no d) =
+        let j : newName (row k) i < 5 = all .within i h h in
+        absurd (all .apart (newName (row k) i) i j (omega arith) (own e (newName (row k) i) (omega arith) j))
+
+-- the first row leaves every place, so it is a renaming of any number of replicas
+first-names : (i : ℕ) → i < 5 → newName (row 0) i ≡ i
+unfolding concatBelow newName withoutPlace orders rows
+first-names = below-five (λ (i : ℕ). newName (row 0) i ≡ i) refl refl refl refl refl
+
+pub first-row : (n : ℕ) → n ≤ 5 → isRenaming n (row 0) ≡ true
+first-row n small =
+    row-fits n 0 small (omega arith) ∙ all-by 5 (keepsPlace n (row 0)) (λ i h. keeps-own n (row 0) i (first-names i h))
 
 -- ---- every renaming is a row
 same-numbers : (xs ys : List ℕ) → sameNumbers xs ys ≡ true → xs ≡ ys
@@ -169,19 +213,23 @@ is-row a b c d e ha hb hc hd he ba ca cb da db dc ea eb ec ed =
     (all-at 5 _
     (rw (da, db, dc) at (all-at 5 _ (rw (ca, cb) at (all-at 5 _ (rw ba at (all-at 5 _ (all-at 5 _ (right 2) a ha) b hb)) c hc)) d hd)) e he))
 
+pub new-past : (p : List ℕ) (i : ℕ) → 5 ≤ i → newName p i ≡ i
+unfolding newName
+new-past p i h = rw (le-ltb i 5 h) refl
+
 pub new-name-five : (p : List ℕ) (i : ℕ) → newName (five p) i ≡ newName p i
 unfolding newName
 new-name-five p i =
     elim (decLt i 5) [
       | yes h ↦ below-five (λ (k : ℕ). newName (five p) k ≡ newName p k) refl refl refl refl refl i h
-      | no h ↦ rw (le-ltb i 5 (omega arith)) refl
+      | no h ↦ new-past (five p) i (omega arith) ∙ sym (new-past p i (omega arith))
     ]
 
 pub old-name-five : (p : List ℕ) (j : ℕ) → oldName (five p) j ≡ oldName p j
 unfolding oldName holder newName
 old-name-five p j = refl
 
-module _ (n : ℕ) (small : n ≤ 5) (p : List ℕ) (r : Places n p) where
+module _ (n : ℕ) (small : n ≤ 5) (p : List ℕ) (r : Distinct n p) where
   low : (i : ℕ) → i < 5 → newName p i < 5
   low i h =
       elim (decLt i n) [
@@ -193,7 +241,7 @@ module _ (n : ℕ) (small : n ≤ 5) (p : List ℕ) (r : Places n p) where
   unfolding newName
   row-of =
       let w : (i : ℕ) → i < 5 → newName p i < 5 = low in
-      let z : (i j : ℕ) → i < 5 → j < i → eqb (newName p i) (newName p j) ≡ false = r .apart in (
+      let z : (i j : ℕ) → i < 5 → j < i → eqb (newName p i) (newName p j) ≡ false = λ i j h l. ne-eqb _ _ (r .apart i j h l) in (
         rank (getD p 0 0) (getD p 1 0) (getD p 2 0) (getD p 3 0),
         is-row (getD p 0 0) (getD p 1 0) (getD p 2 0) (getD p 3 0) (getD p 4 0)
             (w 0 (omega arith)) (w 1 (omega arith)) (w 2 (omega arith)) (w 3 (omega arith)) (w 4 (omega arith))
@@ -212,7 +260,7 @@ module _ (n : ℕ) (small : n ≤ 5) (p : List ℕ) (r : Places n p) where
           let z : _≡_ {A = ℕ} 5 0 = ap length (sym e ∙ List·getD-eq-default rows [] (omega (arith, rows-count))) in
           absurd (omega arith)
 
-  -- ---- and its way back
+  -- ---- and its inverse
   comes-back : (i : ℕ) → i < 5 → comesBack p i ≡ true
   comes-back i h =
       let x = row-number in
@@ -221,10 +269,6 @@ module _ (n : ℕ) (small : n ≤ 5) (p : List ℕ) (r : Places n p) where
       (every-at (rowTests (x .0)) (all-at 120 rowTest (right 0) (x .0) (x .1)) 1) in
       rw (new-name-five p i, old-name-five p i, old-name-five p (newName p i), new-name-five p (oldName p i)) at
       (all-at 5 (comesBack (five p)) all i h)
-
-  new-past : (i : ℕ) → 5 ≤ i → newName p i ≡ i
-  unfolding newName
-  new-past i h = rw (le-ltb i 5 h) refl
 
   old-past : (j : ℕ) → 5 ≤ j → oldName p j ≡ j
   unfolding oldName holder
@@ -238,7 +282,7 @@ module _ (n : ℕ) (small : n ≤ 5) (p : List ℕ) (r : Places n p) where
         | yes h ↦
             eqb-true (newName p (oldName p i)) i
             (and-left (eqb (newName p (oldName p i)) i) (eqb (oldName p (newName p i)) i) (comes-back i h))
-        | no h ↦ ap (newName p) (old-past i (omega arith)) ∙ new-past i (omega arith)
+        | no h ↦ ap (newName p) (old-past i (omega arith)) ∙ new-past p i (omega arith)
       ]
 
   pub old-new : (i : ℕ) → oldName p (newName p i) ≡ i
@@ -247,11 +291,11 @@ module _ (n : ℕ) (small : n ≤ 5) (p : List ℕ) (r : Places n p) where
         | yes h ↦
             eqb-true (oldName p (newName p i)) i
             (and-right (eqb (newName p (oldName p i)) i) (eqb (oldName p (newName p i)) i) (comes-back i h))
-        | no h ↦ ap (oldName p) (new-past i (omega arith)) ∙ old-past i (omega arith)
+        | no h ↦ ap (oldName p) (new-past p i (omega arith)) ∙ old-past i (omega arith)
       ]
 
   pub stays : (i : ℕ) → n ≤ i → newName p i ≡ i
-  stays i b = elim (decLt i 5) [ yes h ↦ r .others i b h | no h ↦ new-past i (omega arith) ]
+  stays i b = elim (decLt i 5) [ yes h ↦ r .others i b h | no h ↦ new-past p i (omega arith) ]
 
 -- five places that pass the test are a renaming
 abbrev pub renamingOf : (n : ℕ) → n ≤ 5 → (p : List ℕ) → isRenaming n p ≡ true → Renaming n
@@ -259,7 +303,7 @@ renamingOf n small p h =
     record {
       to = newName p;
       from = oldName p;
-      to-from = new-old n small p (places-of n p h);
-      from-to = old-new n small p (places-of n p h);
-      keeps = stays n small p (places-of n p h);
+      to-from = new-old n small p (distinct-of n p h);
+      from-to = old-new n small p (distinct-of n p h);
+      keeps = stays n small p (distinct-of n p h);
     }

@@ -1,4 +1,4 @@
--- A renamed state meets S1 to S7 exactly where the state does, and zeros in unused room stay zeros. Assumes nothing.
+-- A renamed state meets S1 to S7 exactly where the state does. Assumes nothing.
 use Prim.Native.Nat.{ℕ, zero, suc, _≤_, _<_, _^_}
 use mathlib.Core.Path.{_≡_, refl, sym, ap, ap₂, _∙_}
 use mathlib.Core.Bool.{Bool, not, _&&_, _||_}

@@ -1,15 +1,13 @@
 -- The states that renamings work on: tidy states that meet the rules. A renamed one is so too. Assumes nothing.
 use Prim.Native.Nat.{ℕ, _≤_, _<_}
-use mathlib.Core.Path.{_≡_, refl, sym, ap, _∙_, subst}
+use mathlib.Core.Path.{_≡_, refl, sym, ap, _∙_}
 use mathlib.Core.Bool.{Bool, true, false, cond}
-use mathlib.Core.List.{List, map}
 use native.Mathlib.Omega.{arith}
 use native.Mathlib.Nat.{le-refl}
 use native.Mathlib.Decide.{decLt}
 use lib.Dec.{ltb}
-use lib.ListN.{length, getD, length-map, List·getD-map, List·getD-eq-default}
-use borrow.Author.Tests.{le-ltb}
-use Rattle.logic.specs.Table.{table, length-table, getD-table, table-cong, ext-table, cond-false}
+use lib.ListN.{List·getD-eq-default}
+use Rattle.logic.specs.Table.{table, length-table, getD-table, table-cong}
 use Rattle.parts.specs.IsrLaws.{below-32}
 use Rattle.replica.specs.declared.Replica.{Replica}
 use Rattle.replica.specs.Replica.{zeroReplica, noReplica, tidyReplica}
@@ -20,77 +18,51 @@ use Rattle.cluster.specs.Rules.{rules}
 use Rattle.cluster.specs.Predicates.{Rules, rules-iff}
 use Rattle.cluster.specs.Equality.{state-path, tidy-twice}
 use Rattle.cluster.specs.Unused.{rules-tidy}
+use Rattle.cluster.specs.RuleLaws.{rules-bounded}
+use Rattle.cluster.specs.ActLaws.{quorum-isr-small, isr-small}
+use Rattle.actions.specs.Tidy.{Tidy, tidy-iff}
+use Rattle.logic.specs.Maps.{map-table}
 use Rattle.renamings.specs.Renaming.{Renaming, inverse, from-below, ltb-to}
-use Rattle.renamings.specs.Rename.{renameRequest, renameReplica, renamedReplicaAt, renameReplicas, renameState}
+use Rattle.renamings.specs.Rename.{renameRequest, renameReplica, renamedReplicaAt, renameReplicas, renameState, Met}
 use Rattle.renamings.specs.PartsRenamed.{zero-replica-renamed, zero-request-renamed, replica-renamed, request-renamed}
 use Rattle.renamings.specs.RulesRenamed.{Fits, rules-renamed}
-
--- a tidy state that meets the rules
-pub record Met (s : State) : Type 0 where
-  pub rules : rules s ≡ true
-  pub tidy : tidy s ≡ s
 
 -- the tidy form of a state that meets the rules
 pub met-tidy : (s : State) → rules s ≡ true → Met (tidy s)
 met-tidy s h = record { rules = rules-tidy s ∙ h; tidy = tidy-twice s }
-
--- ---- what a tidy state has in its unused room
-unused-replica : (s : State) (i : ℕ) → replicaCount (s .limits) ≤ i → replicaAt (tidy s) i .isr ≡ 0
-unfolding tidy
-unused-replica s i h =
-    elim (decLt i 5) [
-      | yes b ↦
-          ap (λ (q : Replica). q .isr)
-          (getD-table 5 (tidyReplicaAt s) i noReplica b
-          ∙ cond-false (ltb i (replicaCount (s .limits))) (tidyReplica (replicaAt s i)) zeroReplica (le-ltb i (replicaCount (s .limits)) h))
-      | no b ↦
-          ap (λ (q : Replica). q .isr)
-          (List·getD-eq-default (table 5 (tidyReplicaAt s)) noReplica (omega (arith, length-table 5 (tidyReplicaAt s))))
-    ]
-
-unused-request : (s : State) (e : ℕ) → nextLeaderEpoch s ≤ e → requestAt (tidy s) e .isr ≡ 0
-unfolding tidy
-unused-request s e h =
-    elim (decLt e 16) [
-      | yes b ↦
-          ap (λ (q : Request). q .isr)
-          (getD-table 16 (tidyRequestAt s) e zeroRequest b
-          ∙ cond-false (ltb e (nextLeaderEpoch s)) (requestAt s e) zeroRequest (le-ltb e (nextLeaderEpoch s) h))
-      | no b ↦
-          ap (λ (q : Request). q .isr)
-          (List·getD-eq-default (table 16 (tidyRequestAt s)) zeroRequest (omega (arith, length-table 16 (tidyRequestAt s))))
-    ]
-
-five-replicas : (s : State) → length (tidy s .replicas) ≡ 5
-unfolding tidy
-five-replicas s = length-table 5 (tidyReplicaAt s)
 
 module _ (s : State) (m : Met s) where
   facts : Rules s
   facts = rules-iff s .0 (m .rules)
 
   pub at-most-five : replicaCount (s .limits) ≤ 5
-  at-most-five = facts .s1 .ranges .replicas
+  at-most-five = rules-bounded s (m .rules) .replicas
+
+  arrays : Tidy s
+  arrays = tidy-iff s .0 (m .tidy)
+
+  request-isr : (e : ℕ) → Dec (e < nextLeaderEpoch s) → Dec (e < 16) → requestAt s e .isr < 32
+  request-isr e (yes l) b = below-32 _ _ at-most-five (facts .s2 .requests e l .within)
+  request-isr e (no l) (yes b) = omega (arith, ap (λ (q : Request). q .isr) (arrays .requests .unused e b (omega arith)))
+  request-isr e (no l) (no b) =
+      let z : requestAt s e ≡ zeroRequest = List·getD-eq-default (s .requests) zeroRequest (omega (arith, arrays .requests .room)) in
+      omega (arith, ap (λ (q : Request). q .isr) z)
+
+  replica-isr : (i : ℕ) → Dec (i < replicaCount (s .limits)) → Dec (i < 5) → replicaAt s i .isr < 32
+  replica-isr i (yes l) b = isr-small s (m .rules) i l
+  replica-isr i (no l) (yes b) = omega (arith, ap (λ (q : Replica). q .isr) (arrays .replicas .unused i b (omega arith)))
+  replica-isr i (no l) (no b) =
+      let z : replicaAt s i ≡ noReplica = List·getD-eq-default (s .replicas) noReplica (omega (arith, arrays .replicas .room)) in
+      omega (arith, ap (λ (q : Replica). q .isr) z)
 
   pub fits : Fits s
   fits =
       record {
-        five = subst (λ (t : State). length (t .replicas) ≡ 5) (m .tidy) (five-replicas s);
-        quorum = below-32 _ _ at-most-five (facts .s2 .quorum .within);
-        requests = λ e. elim (decLt e (nextLeaderEpoch s)) [
-          | yes h ↦ below-32 _ _ at-most-five (facts .s2 .requests e h .within)
-          | no h ↦ omega (arith, subst (λ (t : State). requestAt t e .isr ≡ 0) (m .tidy) (unused-request s e (omega arith)))
-        ];
-        replicas = λ i. elim (decLt i (replicaCount (s .limits))) [
-          | yes h ↦ below-32 _ _ at-most-five (facts .s2 .replicas i h .within)
-          | no h ↦ omega (arith, subst (λ (t : State). replicaAt t i .isr ≡ 0) (m .tidy) (unused-replica s i (omega arith)))
-        ];
+        five = arrays .replicas .room;
+        quorum = quorum-isr-small s (m .rules);
+        requests = λ e. request-isr e (decLt e (nextLeaderEpoch s)) (decLt e 16);
+        replicas = λ i. replica-isr i (decLt i (replicaCount (s .limits))) (decLt i 5);
       }
-
--- a list mapped, given by what stands at each place
-pub map-table : {A B : Type 0} (d : A) (n : ℕ) (f : A → B) (l : List A) (g : ℕ → B) → length l ≡ n
-    → ((i : ℕ) → i < n → f (getD l i d) ≡ g i) → map f l ≡ table n g
-map-table d n f l g e h = ext-table (f d) n g (map f l) (length-map l f ∙ e) (λ i b. List·getD-map f l i d ∙ h i b)
 
 -- ---- tidying goes with renaming
 tidy-replica-renamed : (to from : ℕ → ℕ) (q : Replica) → renameReplica to from (tidyReplica q) ≡ tidyReplica (renameReplica to from q)

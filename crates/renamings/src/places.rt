@@ -2,9 +2,7 @@
 ghost use mathlib.Core.Path.{_≡_};
 ghost use mathlib.Core.Bool.{_&&_, cond};
 ghost use lib.Dec.{eqb};
-ghost use Prim.Native.Nat.{_<_};
-ghost use Rattle.renamings.specs.Names.{newName, oldName, inPlace, isNew, isRenaming};
-ghost use Rattle.renamings.specs.Places.{inverted};
+ghost use Rattle.renamings.specs.Names.{newName, oldName, inverted, inPlace, isNew, isRenaming};
 
 // The new name of replica i.
 pub(crate) fn new_name(p: [u8; 5], i: u8) -> u8
@@ -39,7 +37,7 @@ fn old_name(p: [u8; 5], j: u8) -> u8
     old
 }
 
-// The old names of the replicas whose new names are 0 to 4: the way back.
+// The inverse: the old names of the replicas whose new names are 0 to 4.
 pub(crate) fn inverse(p: [u8; 5]) -> [u8; 5]
     ensures { λ r. ⌜ r ≡ inverted p ⌝ }
 {

@@ -4,6 +4,9 @@ ghost use Prim.Native.Nat.{_≤_, _<_};
 ghost use Rattle.renamings.specs.Names.{row, isRenaming};
 use crate::table;
 
+// How many there are.
+pub const ROWS: usize = 120;
+
 // Row k. The caller shows that there is one.
 pub fn row(k: usize) -> [u8; 5]
     requires { ⌜ k < 120 ⌝ }
@@ -18,8 +21,8 @@ pub fn row(k: usize) -> [u8; 5]
     ]
 }
 
-// Whether row k is a renaming of n replicas: whether it leaves the places from n on. The caller shows that there are such a row
-// and so many replicas.
+// Whether row k is a renaming of n replicas: whether it leaves the places from n on. The caller shows that there is such a row,
+// and that n is at most five.
 pub fn row_fits(k: usize, n: u8) -> bool
     requires { ⌜ k < 120 ⌝ }
     requires { ⌜ n ≤ 5 ⌝ }

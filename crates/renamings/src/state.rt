@@ -1,14 +1,13 @@
-// A state under a renaming p: `back` is the way back, which has the old names.
+// A state under a renaming p; `back` is its inverse, which holds the old names.
 ghost use mathlib.Core.Path.{_≡_};
 ghost use mathlib.Core.Bool.{true};
-ghost use Prim.Native.Nat.{_≤_, _<_};
+ghost use Prim.Native.Nat.{_≤_};
 ghost use Rattle.parts.specs.Isr.{member, bit};
 ghost use Rattle.logic.specs.Table.{table};
-ghost use Rattle.cluster.specs.State.{replicaCount, withRequests, withReplicas};
+ghost use Rattle.cluster.specs.State.{withRequests, withReplicas};
 ghost use Rattle.cluster.specs.Rules.{rules};
-ghost use Rattle.renamings.specs.Names.{newName, oldName, isRenaming};
-ghost use Rattle.renamings.specs.Rename.{renameLeader, renameIsr, renameQuorum, renameRequest, renameReplica, renamedReplicaAt, renameState};
-ghost use Rattle.renamings.specs.CodeLaws.{nameIn, Inward, renamedRequestAt};
+ghost use Rattle.renamings.specs.Names.{newName, oldName, nameIn, Inward};
+ghost use Rattle.renamings.specs.Rename.{renameLeader, renameIsr, renameQuorum, renameRequest, renamedRequestAt, renameReplica, renamedReplicaAt, renameState, Renames};
 use crate::places;
 use cluster::Quorum;
 use cluster::Request;
@@ -101,7 +100,7 @@ fn rename_requests(p: [u8; 5], back: [u8; 5], s: State) -> State
 }
 
 // The state with the block of the replica that is named j from now on in place j, and nothing else renamed. The caller shows
-// that the old names are five.
+// that each old name is below five.
 fn rename_replicas(p: [u8; 5], back: [u8; 5], s: State) -> State
     requires { ⌜ Inward back ⌝ }
     ensures { λ r. ⌜ r ≡ withReplicas s (table 5 (renamedReplicaAt (newName p) (nameIn back) (s .replicas))) ⌝ }
@@ -120,7 +119,7 @@ fn rename_replicas(p: [u8; 5], back: [u8; 5], s: State) -> State
 // The state under p. The caller shows that the state meets the rules and p is a renaming of its replicas.
 pub fn rename_state(s: State, p: [u8; 5]) -> State
     requires { ⌜ rules s ≡ true ⌝ }
-    requires { ⌜ isRenaming (replicaCount (s .limits)) p ≡ true ⌝ }
+    requires { ⌜ Renames s p ⌝ }
     ensures { λ r. ⌜ r ≡ renameState (newName p) (oldName p) s ⌝ }
 {
     let back = places::inverse(p);

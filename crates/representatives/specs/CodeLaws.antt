@@ -2,27 +2,27 @@
 use Prim.Native.Nat.{ℕ, _≤_}
 use mathlib.Core.Path.{_≡_, sym, ap, _∙_}
 use mathlib.Core.Bool.{true}
-use mathlib.Core.List.{List}
-use native.Mathlib.Nat.{zero-add}
+use mathlib.Core.List.{List, []}
 use native.Mathlib.Omega.{arith}
 use lib.ListN.{length, take, drop}
-use lib.Seq.{take-append-seam}
 use Rattle.logic.specs.Table.{cond-true, cond-false}
-use Rattle.logic.specs.Stores.{Stored, stored-front, stored-length}
+use Rattle.logic.specs.Order.{precedes-irreflexive}
+use Rattle.logic.specs.Least.{leastFrom, least-turn, better-not-before}
+use Rattle.logic.specs.Stores.{Stored, stored-part}
 use Rattle.parts.specs.Refusal.{accepted, brokenState}
 use Rattle.cluster.specs.declared.State.{State}
-use Rattle.cluster.specs.State.{tidy}
+use Rattle.cluster.specs.State.{replicaCount, tidy}
 use Rattle.cluster.specs.Rules.{rules, stateRefusal}
 use Rattle.cluster.specs.RuleLaws.{refusal-broken}
 use Rattle.cluster.specs.Fresh.{answer}
 use Rattle.images.specs.Image.{image}
 use Rattle.images.specs.ImageLaws.{image-most}
-use Rattle.renamings.specs.Names.{newName, oldName}
-use Rattle.renamings.specs.Rename.{renameState, renamed}
-use Rattle.renamings.specs.TidyRenamed.{Met}
+use Rattle.renamings.specs.Names.{newName, oldName, isRenaming, rows, row}
+use Rattle.renamings.specs.Rows.{rows-count}
+use Rattle.renamings.specs.Rename.{renameState, renamed, Renames, Met}
 use Rattle.renamings.specs.RenameTheorems.{renamed-meets-rules}
-use Rattle.representatives.specs.Representative.{leastRenaming, representative, represent}
-use Rattle.representatives.specs.RepresentativeTheorems.{Renames, least-tidy}
+use Rattle.representatives.specs.Representative.{imageUnder, leastRenaming, representative, represent}
+use Rattle.representatives.specs.RepresentativeTheorems.{least-tidy}
 
 -- ---- a tidy state that meets the rules, renamed
 pub under : (s t : State) (p : List ℕ) → Met s → t ≡ renameState (newName p) (oldName p) s → t ≡ renamed p s
@@ -36,14 +36,21 @@ under-writes s t p m f e =
     let h : rules t ≡ true = ap rules (under s t p m e) ∙ renamed-meets-rules s (m .rules) p f in
     (h, image-most t h)
 
--- ---- what was stored from the front on is the part of the buffer up to the place behind it
-pub stored-part : {old bytes new : List ℕ} {n : ℕ} → Stored old 0 bytes new n → length bytes ≤ length old
-    → (n ≤ length new) × (take n new ≡ bytes)
-stored-part {old} {bytes} {new} {n} w h =
-    let e : n ≡ length bytes = w .place ∙ zero-add (length bytes) in (
-      omega (arith, e, stored-length w),
-      rw (e, stored-front w h) (take-append-seam bytes (drop (length bytes) old)),
-    )
+-- and where that was stored at the front of a buffer, the buffer up to the place behind it is the image under p
+pub written-part : (s t : State) (p : List ℕ) → Met s → Renames s p → t ≡ renameState (newName p) (oldName p) s
+    → {old new : List ℕ} {n : ℕ} → Stored old 0 (image t) new n → 227 ≤ length old → (n ≤ length new) × (take n new ≡ imageUnder s p)
+written-part s t p m f e w room =
+    let q = stored-part w (omega (arith, under-writes s t p m f e .1)) in
+    (q .0, q .1 ∙ ap image (under s t p m e))
+
+-- ---- row 0 is not better than itself, so the search may begin behind it
+pub least-start : (s : State) → leastRenaming s ≡ leastFrom (isRenaming (replicaCount (s .limits))) (imageUnder s) (row 0) (drop 1 rows)
+unfolding leastRenaming
+least-start s =
+    let fits = isRenaming (replicaCount (s .limits)) in
+    least-turn fits (imageUnder s) (row 0) [] rows 0 (omega (arith, rows-count))
+    ∙ ap (λ (p : List ℕ). leastFrom fits (imageUnder s) p (drop 1 rows))
+    (better-not-before fits (imageUnder s) (row 0) (row 0) (precedes-irreflexive (imageUnder s (row 0))))
 
 -- ---- what asking for a representative answers
 pub represent-broken : (s : State) → (stateRefusal s ≡ accepted → ⊥) → answer (stateRefusal s) s ≡ represent s

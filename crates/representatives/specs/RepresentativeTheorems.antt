@@ -7,30 +7,26 @@ use mathlib.Core.Bool.{Bool, true, false}
 use mathlib.Core.List.{List}
 use mathlib.Core.Logic.{_↔_, _⊎_, inl, inr}
 use native.Mathlib.Omega.{arith}
-use Rattle.logic.specs.Order.{precedes, precedes-antisymmetric}
+use Rattle.logic.specs.Order.{precedes, not-before-antisymmetric}
 use Rattle.logic.specs.Least.{leastFrom, least-at, least-is, same-representative}
 use Rattle.cluster.specs.declared.State.{State}
 use Rattle.cluster.specs.State.{replicaCount, Same, tidy}
 use Rattle.cluster.specs.Rules.{rules}
 use Rattle.cluster.specs.Equality.{same-iff-tidy, tidy-twice, tidy-same}
-use Rattle.cluster.specs.Predicates.{rules-iff}
+use Rattle.cluster.specs.RuleLaws.{rules-bounded}
 use Rattle.images.specs.Image.{image}
 use Rattle.images.specs.ImageTheorems.{image-iff}
-use Rattle.renamings.specs.Names.{newName, oldName, isRenaming, rows, row}
-use Rattle.renamings.specs.Rename.{renameState, renamed}
-use Rattle.renamings.specs.Rows.{rows-count, first-row, places-of, row-number, five}
-use Rattle.renamings.specs.Places.{composed, composed-renaming, inverted, inverted-renaming, renaming-five, state-five}
-use Rattle.renamings.specs.TidyRenamed.{Met, met-tidy, at-most-five}
-use Rattle.renamings.specs.RenameTheorems.{renamed-meets-rules, renamed-is-tidy, renamed-twice, renamed-back}
+use Rattle.renamings.specs.Names.{newName, oldName, inverted, composed, isRenaming, rows, row}
+use Rattle.renamings.specs.Rename.{renameState, renamed, Renames, Met}
+use Rattle.renamings.specs.Rows.{rows-count, first-row, distinct-of, row-number, five}
+use Rattle.renamings.specs.Places.{composed-renaming, inverted-renaming, renaming-five, state-five}
+use Rattle.renamings.specs.TidyRenamed.{met-tidy, at-most-five}
+use Rattle.renamings.specs.RenameTheorems.{renames-tidy, renames-renamed, renamed-meets-rules, renamed-is-tidy, renamed-twice, renamed-back}
 use Rattle.representatives.specs.Representative.{imageUnder, leastRenaming, representative}
-
--- p is a renaming of the state's replicas
-abbrev pub Renames : State → List ℕ → Type 0
-Renames s p = isRenaming (replicaCount (s .limits)) p ≡ true
 
 module _ (s : State) (h : rules s ≡ true) where
   few : replicaCount (s .limits) ≤ 5
-  few = rules-iff s .0 h .s1 .ranges .replicas
+  few = rules-bounded s h .replicas
 
   least-fits : Renames s (leastRenaming s)
   unfolding leastRenaming
@@ -51,7 +47,7 @@ module _ (s : State) (h : rules s ≡ true) where
   unfolding representative leastRenaming
   has-least-image p f =
       let n = replicaCount (s .limits) in
-      let x = row-number n few p (places-of n p f) in
+      let x = row-number n few p (distinct-of n p f) in
       rw (← five-under p, ← x .2)
       (least-at (isRenaming n) (imageUnder s) (row 0) _ rows (x .0) (omega (arith, rows-count, x .1))
       (ap (isRenaming n) (x .2) ∙ renaming-five n p ∙ f))
@@ -64,7 +60,7 @@ module _ (s : State) (h : rules s ≡ true) where
       by : (b : Bool) → precedes (image (representative s)) (image (renamed p s)) ≡ b
           → (image (representative s) ≡ image (renamed p s)) ⊎ (precedes (image (representative s)) (image (renamed p s)) ≡ true)
       by true e = inr e
-      by false e = inl (precedes-antisymmetric (image (representative s)) (image (renamed p s)) (has-least-image p f) e)
+      by false e = inl (not-before-antisymmetric (image (representative s)) (image (renamed p s)) (has-least-image p f) e)
 
 -- ---- equal representatives
 -- the images of tidy states that meet the rules tell them apart
@@ -74,19 +70,10 @@ apart s t m k e = sym (m .tidy) ∙ same-iff-tidy s t .0 (image-iff s t (m .rule
 good : (s : State) (p : List ℕ) → Met s → Renames s p → Met (renamed p s)
 good s p m f = record { rules = renamed-meets-rules s (m .rules) p f; tidy = renamed-is-tidy s (m .rules) p f }
 
--- a renaming of the renamed state is one of the state
-renames-back : (s : State) (p q : List ℕ) → Renames (renamed p s) q → Renames s q
-unfolding renamed tidy
-renames-back s p q f = f
-
-renames-on : (s : State) (p q : List ℕ) → Renames s q → Renames (renamed p s) q
-unfolding renamed tidy
-renames-on s p q f = f
-
 after : (s : State) (p q : List ℕ) → Met s → Renames s p → Renames (renamed p s) q
     → (r : List ℕ) × Renames s r × (renamed r s ≡ renamed q (renamed p s))
 after s p q m f g =
-    let k = renames-back s p q g in (
+    let k = renames-renamed s p q .1 g in (
       composed q p,
       composed-renaming (replicaCount (s .limits)) (at-most-five s m) q p k f,
       sym (renamed-twice s (m .rules) p f q k),
@@ -95,7 +82,7 @@ after s p q m f g =
 back : (s : State) (p : List ℕ) → Met s → Renames s p → (q : List ℕ) × Renames (renamed p s) q × (renamed q (renamed p s) ≡ s)
 back s p m f = (
   inverted p,
-  renames-on s p (inverted p) (inverted-renaming (replicaCount (s .limits)) (at-most-five s m) p f),
+  renames-renamed s p (inverted p) .0 (inverted-renaming (replicaCount (s .limits)) (at-most-five s m) p f),
   renamed-back s (m .rules) p f ∙ m .tidy,
 )
 
@@ -111,10 +98,6 @@ renamed-tidy : (s : State) (p : List ℕ) → renamed p (tidy s) ≡ renamed p s
 unfolding renamed
 renamed-tidy s p = ap (renameState (newName p) (oldName p)) (tidy-twice s)
 
-renames-tidy : (s : State) (p : List ℕ) → Renames s p ↔ Renames (tidy s) p
-unfolding tidy
-renames-tidy s p = ((λ f. f), (λ f. f))
-
 pub least-tidy : (s : State) → leastRenaming (tidy s) ≡ leastRenaming s
 unfolding leastRenaming tidy
 least-tidy s =
@@ -123,6 +106,10 @@ least-tidy s =
 pub representative-tidy : (s : State) → representative (tidy s) ≡ representative s
 unfolding representative
 representative-tidy s = ap (λ (p : List ℕ). renamed p (tidy s)) (least-tidy s) ∙ renamed-tidy s (leastRenaming s)
+
+-- equal states have the same
+pub representative-same : (s t : State) → Same s t → representative s ≡ representative t
+representative-same s t m = sym (representative-tidy s) ∙ ap representative (same-iff-tidy s t .0 m) ∙ representative-tidy t
 
 -- two representatives are equal exactly when some renaming turns one state into the other
 pub representatives-equal : (s t : State) → rules s ≡ true → rules t ≡ true

@@ -1,14 +1,10 @@
 // The comparison of two renamings of a state, by their images.
 ghost use mathlib.Core.Path.{_≡_};
-ghost use Rattle.cluster.specs.State.{replicaCount};
 ghost use Rattle.logic.specs.Order.{precedes};
-ghost use Rattle.renamings.specs.TidyRenamed.{Met};
+ghost use Rattle.renamings.specs.Rename.{Renames, Met};
 ghost use Rattle.representatives.specs.Representative.{comesFirst};
-ghost use Rattle.representatives.specs.RepresentativeTheorems.{Renames};
 use cluster::State;
-
-// The most bytes that an image has.
-const LONGEST: usize = 227;
+use images::LONGEST;
 
 // Whether the bytes of a come before those of b, compared from the front.
 fn precedes(a: &[u8], b: &[u8]) -> bool

@@ -6,16 +6,13 @@ ghost use Prim.Native.Nat.{_<_};
 ghost use Rattle.cluster.specs.State.{replicaCount};
 ghost use Rattle.logic.specs.Least.{better};
 ghost use Rattle.renamings.specs.Names.{isRenaming, row};
-ghost use Rattle.renamings.specs.TidyRenamed.{Met};
+ghost use Rattle.renamings.specs.Rename.{Renames, Met};
 ghost use Rattle.representatives.specs.Representative.{imageUnder, leastRenaming, represent};
-ghost use Rattle.representatives.specs.RepresentativeTheorems.{Renames};
 use cluster::Outcome;
 use cluster::State;
 use parts::refusal::ACCEPTED;
 use renamings::rows;
-
-// How many rows the table has.
-const ROWS: usize = 120;
+use renamings::rows::ROWS;
 
 // Row k where it is a renaming of the state's replicas and gives the lesser image, else the best row so far. The caller shows
 // that the state is tidy and meets the rules, that there are such rows, and that the best one is a renaming.
@@ -42,7 +39,7 @@ fn least_row(s: State) -> usize
     ensures { λ r. ⌜ (r < 120) × Renames s (row r) × (row r ≡ leastRenaming s) ⌝ }
 {
     let mut best: usize = 0;
-    let mut k: usize = 0;
+    let mut k: usize = 1;
     while k < ROWS {
         best = better(s, best, k);
         k = k + 1;

@@ -1,14 +1,15 @@
 use Prim.Native.Nat.{_≤_, _<_, _-_, ℕ, _+_}
 use mathlib.Core.List.{List, []}
-use mathlib.Core.Path.{_≡_, refl, sym, ap, _∙_}
+use mathlib.Core.Path.{_≡_, sym, ap, _∙_}
 use native.Mathlib.Omega.{arith}
 use lib.ListN.{drop}
 use borrow.Author.Needs.{needs}
+use Rattle.representatives.specs.CodeLaws.{least-start}
 use Rattle.cluster.specs.State.{replicaCount}
-use Rattle.representatives.specs.RepresentativeTheorems.{Renames}
 use Rattle.representatives.specs.Representative.{imageUnder, leastRenaming}
 use Rattle.logic.specs.Least.{leastFrom, least-turn, least-end}
-use Rattle.renamings.specs.TidyRenamed.{Met, at-most-five}
+use Rattle.renamings.specs.TidyRenamed.{at-most-five}
+use Rattle.renamings.specs.Rename.{Renames, Met}
 use Rattle.renamings.specs.Rows.{rows-count, first-row}
 use Rattle.renamings.specs.Names.{isRenaming, rows, row}
 use Rattle.representatives.proofs.least_row.Statement.{statement}
@@ -22,9 +23,8 @@ abbrev μ-loop : tie.MeasureT-loop
 μ-loop s best₀ k₀ best k = 120 - k
 
 loop-holds : tie.Need-loop-holds Inv-loop μ-loop
-unfolding leastRenaming
 loop-holds c =
-    (c .pre, omega arith, omega arith, first-row (replicaCount (c .args .s .limits)) (at-most-five (c .args .s) (c .pre)), refl)
+    (c .pre, omega arith, omega arith, first-row (replicaCount (c .args .s .limits)) (at-most-five (c .args .s) (c .pre)), least-start (c .args .s))
 
 better-requires : tie.Need-better-requires Inv-loop μ-loop
 better-requires c κs = let at = c .before .loop in (at .inv .0, (at .inv .2, (omega arith, at .inv .3)))

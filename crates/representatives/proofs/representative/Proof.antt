@@ -2,10 +2,10 @@ use mathlib.Core.Path.{sym, ap, _∙_, subst}
 use borrow.Author.Needs.{needs}
 use Rattle.cluster.specs.Rules.{rules}
 use Rattle.renamings.specs.Names.{newName, oldName}
-use Rattle.renamings.specs.Rename.{renameState}
+use Rattle.renamings.specs.Rename.{renameState, Met}
 use Rattle.representatives.specs.Representative.{leastRenaming}
 use Rattle.cluster.specs.Unused.{rules-tidy}
-use Rattle.renamings.specs.TidyRenamed.{Met, met-tidy}
+use Rattle.renamings.specs.TidyRenamed.{met-tidy}
 use Rattle.cluster.specs.RuleLaws.{refusal-met}
 use Rattle.representatives.specs.CodeLaws.{represent-broken, represent-met}
 use Rattle.representatives.proofs.representative.Statement.{statement}

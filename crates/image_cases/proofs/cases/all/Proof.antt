@@ -1,13 +1,9 @@
-use native.Mathlib.Omega.{arith}
-use borrow.Author.Needs.{needs}
-use lib.ListN.{length}
 use Prim.Native.Nat.{_≤_, _-_}
+use native.Mathlib.Omega.{arith}
+use lib.ListN.{length}
+use borrow.Author.Needs.{needs}
 use Rattle.image_cases.proofs.cases.all.Statement.{statement}
 use Rattle.image_cases.proofs.cases.all.Tie as tie
-use Rattle.image_cases.proofs.cases.all.Reads as reads
-use Rattle.image_cases.proofs.cases.all.Lts as lts
-use Rattle.image_cases.proofs.cases.case.Reads as case-reads
-use Rattle.image_cases.proofs.cases.places.Reads as places-reads
 
 abbrev Inv-loop : tie.InvT-loop
 Inv-loop input at₀ at = at ≤ length input
@@ -15,83 +11,63 @@ Inv-loop input at₀ at = at ≤ length input
 abbrev μ-loop : tie.MeasureT-loop
 μ-loop input at₀ at = length input - at
 
--- src/cases.rt:169:5
 loop-holds : tie.Need-loop-holds Inv-loop μ-loop
 loop-holds c = search needs
 
--- src/cases.rt:170:22
 shared-slice-read-length : tie.Need-shared-slice-read-length Inv-loop μ-loop
 shared-slice-read-length c = search needs
 
--- src/cases.rt:171:20
 add-from : tie.Need-add-from Inv-loop μ-loop
 add-from c = search needs
 
--- src/cases.rt:172:17
 cast-n : tie.Need-cast-n Inv-loop μ-loop
 cast-n c = record { fits = omega (arith, c .shared-slice-known2 .given (c .before .before .loop .at)) }
 
--- src/cases.rt:173:12
 sub-if1 : tie.Need-sub-if1 Inv-loop μ-loop
 sub-if1 c = search needs
 
--- src/cases.rt:173:33
 add-if1 : tie.Need-add-if1 Inv-loop μ-loop
 add-if1 c = record { fits = omega (arith, c .shared-slice-known2 .given (c .before .before .loop .at) .fits) }
 
--- src/cases.rt:174:13
 returns : tie.Need-returns Inv-loop μ-loop
 returns c = search needs
 
--- src/cases.rt:176:18
 add-to : tie.Need-add-to Inv-loop μ-loop
 add-to c = search needs
 
--- src/cases.rt:177:14
 sub-case : tie.Need-sub-case Inv-loop μ-loop
 sub-case c = search needs
 
--- src/cases.rt:177:14
 part-case-start : tie.Need-part-case-start Inv-loop μ-loop
 part-case-start c = search needs
 
--- src/cases.rt:177:14
 part-case-end : tie.Need-part-case-end Inv-loop μ-loop
 part-case-end c = search needs
 
--- src/cases.rt:177:47
 sub-places : tie.Need-sub-places Inv-loop μ-loop
 sub-places c = search needs
 
--- src/cases.rt:177:47
 part-places-start : tie.Need-part-places-start Inv-loop μ-loop
 part-places-start c = search needs
 
--- src/cases.rt:177:47
 part-places-end : tie.Need-part-places-end Inv-loop μ-loop
 part-places-end c = search needs
 
--- src/cases.rt:177:40
 places-requires : tie.Need-places-requires Inv-loop μ-loop
 places-requires c κs = search needs
 
--- src/cases.rt:177:9
 case-requires : tie.Need-case-requires Inv-loop μ-loop
 case-requires c κs = search needs
 
--- src/cases.rt:178:14
 add-at : tie.Need-add-at Inv-loop μ-loop
 add-at c = search needs
 
--- src/cases.rt:169:5
 loop-less : tie.Need-loop-less Inv-loop μ-loop
 loop-less c = search needs
 
--- src/cases.rt:169:5
 loop-again : tie.Need-loop-again Inv-loop μ-loop
 loop-again c = search needs
 
--- src/cases.rt:167:1
 returns-2 : tie.Need-returns-2 Inv-loop μ-loop
 returns-2 c = search needs
 

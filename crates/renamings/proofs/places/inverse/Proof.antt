@@ -1,5 +1,5 @@
 use borrow.Author.Needs.{needs}
-use Rattle.renamings.specs.Places.{inverted}
+use Rattle.renamings.specs.Names.{inverted}
 use Rattle.logic.specs.Table.{table, tableFrom}
 use Rattle.renamings.proofs.places.inverse.Statement.{statement}
 use Rattle.renamings.proofs.places.inverse.Tie as tie

@@ -6,8 +6,8 @@ use lib.Dec.{eqb}
 use borrow.Author.Needs.{needs}
 use borrow.Author.Tests.{lt-ltb}
 use Rattle.logic.specs.Tests.{allBelow, all-by, all-more, all-fails, all-done}
-use Rattle.renamings.specs.Rows.{keepsPlace, row-fits}
-use Rattle.renamings.specs.CodeLaws.{new-name-place, keeps-yes, keeps-no}
+use Rattle.renamings.specs.Rows.{keepsPlace, keeps-own, row-fits}
+use Rattle.renamings.specs.CodeLaws.{new-name-place, keeps-no}
 use Rattle.renamings.specs.Names.{newName, row}
 use Rattle.renamings.proofs.rows.row_fits.Statement.{statement}
 use Rattle.renamings.proofs.rows.row_fits.Tie as tie
@@ -36,7 +36,7 @@ loop-less c = search needs
 
 loop-again : tie.Need-loop-again Inv-loop μ-loop
 loop-again c =
-    let a = c .before .before .before .before .args in let at = c .before .before .before .loop in (omega arith, omega arith, all-more (at .i) (keepsPlace (a .n) (row (a .k))) (at .inv .2) (keeps-yes (a .n) (row (a .k)) (at .i) (at .inv .1) (sym (new-name-place (row (a .k)) (at .i) (c .before .before .loop-test .taken)) ∙ sym (c .before .place .ensures) ∙ c .if1 .taken)))
+    let a = c .before .before .before .before .args in let at = c .before .before .before .loop in (omega arith, omega arith, all-more (at .i) (keepsPlace (a .n) (row (a .k))) (at .inv .2) (keeps-own (a .n) (row (a .k)) (at .i) (sym (new-name-place (row (a .k)) (at .i) (c .before .before .loop-test .taken)) ∙ sym (c .before .place .ensures) ∙ c .if1 .taken)))
 
 returns : tie.Need-returns Inv-loop μ-loop
 returns c =

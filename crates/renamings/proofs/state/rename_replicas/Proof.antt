@@ -3,9 +3,8 @@ use mathlib.Core.Path.{_≡_, refl, ap, _∙_}
 use native.Mathlib.Omega.{arith}
 use lib.ListN.{set}
 use borrow.Author.Needs.{needs}
-use Rattle.renamings.specs.CodeLaws.{nameIn, Inward}
+use Rattle.renamings.specs.Names.{nameIn, Inward, newName}
 use Rattle.renamings.specs.Rename.{renameReplica, renamedReplicaAt}
-use Rattle.renamings.specs.Names.{newName}
 use Rattle.replica.specs.declared.Replica.{Replica}
 use Rattle.cluster.specs.State.{replicaAt, withReplicas}
 use Rattle.replica.specs.Replica.{noReplica}

@@ -3,8 +3,8 @@ use mathlib.Core.Path.{_≡_, refl, ap}
 use native.Mathlib.Omega.{arith}
 use lib.ListN.{set}
 use borrow.Author.Needs.{needs}
-use Rattle.renamings.specs.CodeLaws.{nameIn, renamedRequestAt}
-use Rattle.renamings.specs.Names.{newName}
+use Rattle.renamings.specs.Rename.{renamedRequestAt}
+use Rattle.renamings.specs.Names.{nameIn, newName}
 use Rattle.cluster.specs.declared.Request.{Request}
 use Rattle.cluster.specs.State.{zeroRequest, requestAt, withRequests}
 use Rattle.cluster.proofs.Owned.{shaped-of}

@@ -1,9 +1,9 @@
-use mathlib.Core.Path.{sym, ap, ap₂, _∙_}
+use mathlib.Core.Path.{sym, ap₂, _∙_}
+use native.Mathlib.Omega.{arith}
 use lib.Seq.{length-take-le}
 use borrow.Author.Needs.{needs}
-use Rattle.images.specs.Image.{image}
+use Rattle.representatives.specs.CodeLaws.{written-part, under-writes}
 use Rattle.logic.specs.Order.{precedes}
-use Rattle.representatives.specs.CodeLaws.{under, under-writes, stored-part}
 use Rattle.representatives.proofs.compare.comes_first.Statement.{statement}
 use Rattle.representatives.proofs.compare.comes_first.Tie as tie
 
@@ -29,19 +29,19 @@ put-image-requires-2 c κs =
 
 array-share-prefix-under-p : tie.Need-array-share-prefix-under-p
 array-share-prefix-under-p c =
-    stored-part (c .before .before .before .before .before .put-image .ensures) (under-writes (c .before .before .before .before .before .before .before .before .args .s) _ (c .before .before .before .before .before .before .before .before .args .p) (c .before .before .before .before .before .before .before .before .pre .0) (c .before .before .before .before .before .before .before .before .pre .1 .0) (c .before .before .before .before .before .before .rename-state .ensures) .1) .0
+    let o = c .before .before .before .before .before .before .before .before in written-part (o .args .s) _ (o .args .p) (o .pre .0) (o .pre .1 .0) (c .before .before .before .before .before .before .rename-state .ensures) (c .before .before .before .before .before .put-image .ensures) (omega arith) .0
 
 slice-aggregate-precedes : tie.Need-slice-aggregate-precedes
 slice-aggregate-precedes c =
-    sym (length-take-le _ _ (stored-part (c .before .before .before .before .before .before .put-image .ensures) (under-writes (c .before .before .before .before .before .before .before .before .before .args .s) _ (c .before .before .before .before .before .before .before .before .before .args .p) (c .before .before .before .before .before .before .before .before .before .pre .0) (c .before .before .before .before .before .before .before .before .before .pre .1 .0) (c .before .before .before .before .before .before .before .rename-state .ensures) .1) .0))
+    let o = c .before .before .before .before .before .before .before .before .before in sym (length-take-le _ _ (written-part (o .args .s) _ (o .args .p) (o .pre .0) (o .pre .1 .0) (c .before .before .before .before .before .before .before .rename-state .ensures) (c .before .before .before .before .before .before .put-image .ensures) (omega arith) .0))
 
 array-share-prefix-under-q : tie.Need-array-share-prefix-under-q
 array-share-prefix-under-q c =
-    stored-part (c .before .before .put-image2 .ensures) (under-writes (c .before .before .before .before .before .before .before .before .before .args .s) _ (c .before .before .before .before .before .before .before .before .before .args .q) (c .before .before .before .before .before .before .before .before .before .pre .0) (c .before .before .before .before .before .before .before .before .before .pre .1 .1) (c .before .before .before .rename-state2 .ensures) .1) .0
+    let o = c .before .before .before .before .before .before .before .before .before in written-part (o .args .s) _ (o .args .q) (o .pre .0) (o .pre .1 .1) (c .before .before .before .rename-state2 .ensures) (c .before .before .put-image2 .ensures) (omega arith) .0
 
 slice-aggregate-precedes-2 : tie.Need-slice-aggregate-precedes-2
 slice-aggregate-precedes-2 c =
-    sym (length-take-le _ _ (stored-part (c .before .before .before .put-image2 .ensures) (under-writes (c .before .before .before .before .before .before .before .before .before .before .args .s) _ (c .before .before .before .before .before .before .before .before .before .before .args .q) (c .before .before .before .before .before .before .before .before .before .before .pre .0) (c .before .before .before .before .before .before .before .before .before .before .pre .1 .1) (c .before .before .before .before .rename-state2 .ensures) .1) .0))
+    let o = c .before .before .before .before .before .before .before .before .before .before in sym (length-take-le _ _ (written-part (o .args .s) _ (o .args .q) (o .pre .0) (o .pre .1 .1) (c .before .before .before .before .rename-state2 .ensures) (c .before .before .before .put-image2 .ensures) (omega arith) .0))
 
 precedes-requires : tie.Need-precedes-requires
 precedes-requires c κs = search needs
@@ -51,10 +51,8 @@ returns c =
     let o = c .before .before .before .before .before .before .before .before .before .before .before in
     c .precedes .ensures
     ∙ ap₂ precedes
-    (stored-part (c .before .before .before .before .before .before .before .before .put-image .ensures) (under-writes (c .before .before .before .before .before .before .before .before .before .before .before .args .s) _ (c .before .before .before .before .before .before .before .before .before .before .before .args .p) (c .before .before .before .before .before .before .before .before .before .before .before .pre .0) (c .before .before .before .before .before .before .before .before .before .before .before .pre .1 .0) (c .before .before .before .before .before .before .before .before .before .rename-state .ensures) .1) .1
-    ∙ ap image (under (o .args .s) _ (o .args .p) (o .pre .0) (c .before .before .before .before .before .before .before .before .before .rename-state .ensures)))
-    (stored-part (c .before .before .before .before .put-image2 .ensures) (under-writes (c .before .before .before .before .before .before .before .before .before .before .before .args .s) _ (c .before .before .before .before .before .before .before .before .before .before .before .args .q) (c .before .before .before .before .before .before .before .before .before .before .before .pre .0) (c .before .before .before .before .before .before .before .before .before .before .before .pre .1 .1) (c .before .before .before .before .before .rename-state2 .ensures) .1) .1
-    ∙ ap image (under (o .args .s) _ (o .args .q) (o .pre .0) (c .before .before .before .before .before .rename-state2 .ensures)))
+    (written-part (o .args .s) _ (o .args .p) (o .pre .0) (o .pre .1 .0) (c .before .before .before .before .before .before .before .before .before .rename-state .ensures) (c .before .before .before .before .before .before .before .before .put-image .ensures) (omega arith) .1)
+    (written-part (o .args .s) _ (o .args .q) (o .pre .0) (o .pre .1 .1) (c .before .before .before .before .before .rename-state2 .ensures) (c .before .before .before .before .put-image2 .ensures) (omega arith) .1)
 
 pub comes-first-spec : {M : Type 1} → statement M
 comes-first-spec =
