@@ -25,7 +25,7 @@ use Rattle.cluster.specs.Fresh.{answer}
 use Rattle.cluster.specs.Act.{answerBy}
 use Rattle.cluster.specs.ActLaws.{answer-zero, answer-other}
 use Rattle.cluster.specs.Equality.{state-path}
-use Rattle.renamings.specs.Names.{newName, holder, oldName, inverted, nameIn, Inward, inPlace, isRenaming, withoutPlace, orders, rows, row, numbers}
+use Rattle.renamings.specs.Names.{newName, holder, oldName, inverted, nameIn, Inward, inPlace, isRenaming, withoutPlace, orders, rows, row, tableNumbers}
 use Rattle.renamings.specs.Rename.{renameIsr, renamedRequestAt, renameQuorum, renameRequest, renameReplica, renamedReplicaAt, renameReplicas, renameState, renamed, renameRefusal, rename}
 use Rattle.renamings.specs.Renaming.{from-below}
 use Rattle.renamings.specs.Rows.{keepsPlace, rows-count, renamingOf}
@@ -75,13 +75,13 @@ rows-at (a ∷ b ∷ c ∷ d ∷ e ∷ l) (suc k) j h i =
     rw past (rows-at l k j (omega arith) i)
 
 -- what stands in row k, place j of the 600 numbers
-numbers-rows : rowsOf numbers ≡ rows
-unfolding rowsOf numbers rows orders withoutPlace concatBelow
+numbers-rows : rowsOf tableNumbers ≡ rows
+unfolding rowsOf tableNumbers rows orders withoutPlace concatBelow
 numbers-rows = refl
 
-pub numbers-at : (k j : ℕ) → k < 120 → j < 5 → getD numbers (5 * k + j) 0 ≡ getD (row k) j 0
+pub numbers-at : (k j : ℕ) → k < 120 → j < 5 → getD tableNumbers (5 * k + j) 0 ≡ getD (row k) j 0
 numbers-at k j h i =
-    rows-at numbers k j (omega (arith, ap (λ (r : List (List ℕ)). length r) numbers-rows, rows-count)) i
+    rows-at tableNumbers k j (omega (arith, ap (λ (r : List (List ℕ)). length r) numbers-rows, rows-count)) i
     ∙ ap (λ (r : List (List ℕ)). getD (getD r k []) j 0) numbers-rows
 
 -- ---- the old names as five numbers

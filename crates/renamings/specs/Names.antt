@@ -81,5 +81,5 @@ abbrev pub row : ℕ → List ℕ
 row k = getD rows k []
 
 -- the 600 numbers of the table: the rows one after the other
-unfoldable pub numbers : List ℕ
-numbers = concatBelow 120 row
+unfoldable pub tableNumbers : List ℕ
+tableNumbers = concatBelow 120 row

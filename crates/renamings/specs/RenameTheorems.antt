@@ -24,8 +24,8 @@ use Rattle.questions.specs.Exposed.{exposed, exposed-same}
 use Rattle.renamings.specs.Names.{newName, oldName, inverted, composed}
 use Rattle.renamings.specs.Rename.{renameIsr, renameQuorum, renameRequest, Renames, renameReplica, renameState, renameAction, renamed, Met}
 use Rattle.renamings.specs.Renaming.{Renaming}
-use Rattle.renamings.specs.Rows.{renamingOf}
-use Rattle.renamings.specs.Places.{composed-state, inverted-state}
+use Rattle.renamings.specs.Rows.{five, renamingOf}
+use Rattle.renamings.specs.Places.{state-five, composed-state, inverted-state}
 use Rattle.renamings.specs.PartsRenamed.{member-renamed, replica-renamed, request-renamed}
 use Rattle.renamings.specs.TidyRenamed.{met-tidy, at-most-five, fits, met-renamed}
 use Rattle.renamings.specs.Group.{rename-twice, rename-back}
@@ -40,6 +40,11 @@ renames-tidy s p = ((λ f. f), (λ f. f))
 pub renames-renamed : (s : State) (p q : List ℕ) → Renames s q ↔ Renames (renamed p s) q
 unfolding renamed tidy
 renames-renamed s p q = ((λ f. f), (λ f. f))
+
+-- only the first five numbers of a list count, so a renaming is five bytes
+pub renamed-five : (s : State) (p : List ℕ) → renamed (five p) s ≡ renamed p s
+unfolding renamed
+renamed-five s p = state-five p (tidy s)
 
 -- equal states are equal under every renaming
 pub renamed-same : (s t : State) (p : List ℕ) → Same s t → renamed p s ≡ renamed p t

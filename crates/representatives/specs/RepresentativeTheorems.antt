@@ -12,16 +12,16 @@ use Rattle.logic.specs.Least.{leastFrom, least-at, least-is, same-representativ
 use Rattle.cluster.specs.declared.State.{State}
 use Rattle.cluster.specs.State.{replicaCount, Same, tidy}
 use Rattle.cluster.specs.Rules.{rules}
-use Rattle.cluster.specs.Equality.{same-iff-tidy, tidy-twice, tidy-same}
+use Rattle.cluster.specs.Equality.{same-iff-tidy, tidy-same}
 use Rattle.cluster.specs.RuleLaws.{rules-bounded}
 use Rattle.images.specs.Image.{image}
 use Rattle.images.specs.ImageTheorems.{image-iff}
-use Rattle.renamings.specs.Names.{newName, oldName, inverted, composed, isRenaming, rows, row}
-use Rattle.renamings.specs.Rename.{renameState, renamed, Renames, Met}
-use Rattle.renamings.specs.Rows.{rows-count, first-row, distinct-of, row-number, five}
-use Rattle.renamings.specs.Places.{composed-renaming, inverted-renaming, renaming-five, state-five}
+use Rattle.renamings.specs.Names.{inverted, composed, isRenaming, rows, row}
+use Rattle.renamings.specs.Rename.{renamed, Renames, Met}
+use Rattle.renamings.specs.Rows.{rows-count, first-row, distinct-of, row-number}
+use Rattle.renamings.specs.Places.{composed-renaming, inverted-renaming, renaming-five}
 use Rattle.renamings.specs.TidyRenamed.{met-tidy, at-most-five}
-use Rattle.renamings.specs.RenameTheorems.{renames-tidy, renames-renamed, renamed-meets-rules, renamed-is-tidy, renamed-twice, renamed-back}
+use Rattle.renamings.specs.RenameTheorems.{renamed-same, renamed-five, renames-tidy, renames-renamed, renamed-meets-rules, renamed-is-tidy, renamed-twice, renamed-back}
 use Rattle.representatives.specs.Representative.{imageUnder, leastRenaming, representative}
 
 module _ (s : State) (h : rules s ≡ true) where
@@ -38,17 +38,13 @@ module _ (s : State) (h : rules s ≡ true) where
   unfolding representative
   is-renamed = (leastRenaming s, least-fits, refl)
 
-  five-under : (p : List ℕ) → renamed (five p) s ≡ renamed p s
-  unfolding renamed
-  five-under p = state-five p (tidy s)
-
   -- "with the least image": no image under a renaming comes before it
   pub has-least-image : (p : List ℕ) → Renames s p → precedes (image (renamed p s)) (image (representative s)) ≡ false
   unfolding representative leastRenaming
   has-least-image p f =
       let n = replicaCount (s .limits) in
       let x = row-number n few p (distinct-of n p f) in
-      rw (← five-under p, ← x .2)
+      rw (← renamed-five s p, ← x .2)
       (least-at (isRenaming n) (imageUnder s) (row 0) _ rows (x .0) (omega (arith, rows-count, x .1))
       (ap (isRenaming n) (x .2) ∙ renaming-five n p ∙ f))
 
@@ -95,8 +91,7 @@ tidy-representatives =
 
 -- the representative looks at no unused room
 renamed-tidy : (s : State) (p : List ℕ) → renamed p (tidy s) ≡ renamed p s
-unfolding renamed
-renamed-tidy s p = ap (renameState (newName p) (oldName p)) (tidy-twice s)
+renamed-tidy s p = renamed-same (tidy s) s p (tidy-same s)
 
 pub least-tidy : (s : State) → leastRenaming (tidy s) ≡ leastRenaming s
 unfolding leastRenaming tidy

@@ -1,6 +1,6 @@
 use borrow.Author.Needs.{needs}
 use Rattle.logic.specs.Concat.{concatBelow}
-use Rattle.renamings.specs.Names.{numbers, rows, orders, withoutPlace}
+use Rattle.renamings.specs.Names.{tableNumbers, rows, orders, withoutPlace}
 use Rattle.renamings.specs.CodeLaws.{numbers-at}
 use Rattle.renamings.proofs.table.place.Statement.{statement}
 use Rattle.renamings.proofs.table.place.Tie as tie
@@ -15,7 +15,7 @@ array-read-result : tie.Need-array-read-result
 array-read-result c = search needs
 
 returns : tie.Need-returns
-unfolding numbers rows orders withoutPlace concatBelow
+unfolding tableNumbers rows orders withoutPlace concatBelow
 returns c = numbers-at (c .args .k) (c .args .j) (c .pre .0) (c .pre .1)
 
 pub place-spec : {M : Type 1} → statement M
