@@ -26,7 +26,7 @@ use Rattle.cluster.specs.Act.{answerBy}
 use Rattle.cluster.specs.ActLaws.{answer-zero, answer-other}
 use Rattle.cluster.specs.Equality.{state-path}
 use Rattle.renamings.specs.Names.{newName, holder, oldName, inverted, nameIn, Inward, inPlace, isRenaming, withoutPlace, orders, rows, row, tableNumbers}
-use Rattle.renamings.specs.Rename.{renameIsr, renamedRequestAt, renameQuorum, renameRequest, renameReplica, renamedReplicaAt, renameReplicas, renameState, renamed, renameRefusal, rename}
+use Rattle.renamings.specs.Rename.{renameIsr, renamedRequestAt, renameQuorum, renameRequest, renameReplica, renamedReplicaAt, renameReplicas, renameState, renamed, Renames, renameRefusal, rename}
 use Rattle.renamings.specs.Renaming.{from-below}
 use Rattle.renamings.specs.Rows.{keepsPlace, rows-count, renamingOf}
 
@@ -85,7 +85,7 @@ numbers-at k j h i =
     ∙ ap (λ (r : List (List ℕ)). getD (getD r k []) j 0) numbers-rows
 
 -- ---- the old names as five numbers
-pub inverted-at : (p : List ℕ) (j : ℕ) → j < 5 → nameIn (inverted p) j ≡ oldName p j
+inverted-at : (p : List ℕ) (j : ℕ) → j < 5 → nameIn (inverted p) j ≡ oldName p j
 unfolding inverted
 inverted-at p j h = getD-table 5 (oldName p) j 0 h
 
@@ -112,7 +112,7 @@ module _ (to f g : ℕ → ℕ) (e : (j : ℕ) → j < 5 → f j ≡ g j) where
       (table-cong 5 (renamedReplicaAt to f (s .replicas)) (renamedReplicaAt to g (s .replicas))
       (λ j h. rw (e j h) (replica-cong (replicaIn (s .replicas) (g j)))))
 
-pub by-inverse : (p : List ℕ) (s : State) → renameState (newName p) (nameIn (inverted p)) s ≡ renameState (newName p) (oldName p) s
+by-inverse : (p : List ℕ) (s : State) → renameState (newName p) (nameIn (inverted p)) s ≡ renameState (newName p) (oldName p) s
 by-inverse p s = rename-cong (newName p) (nameIn (inverted p)) (oldName p) (inverted-at p) s
 
 -- the requests, one by one
@@ -146,7 +146,7 @@ rename-unfit s p h f =
     ∙ ap (λ (k : ℕ). answerBy k s (renamed p s))
     (refuse-yes (not (isRenaming (replicaCount (s .limits)) p)) notRenaming accepted (ap not f) ∙ refuse-no (not (rules s)) brokenState _ (ap not h))
 
-pub rename-fits : (s : State) (p : List ℕ) → rules s ≡ true → isRenaming (replicaCount (s .limits)) p ≡ true → answer accepted (renamed p s) ≡ rename s p
+pub rename-fits : (s : State) (p : List ℕ) → rules s ≡ true → Renames s p → answer accepted (renamed p s) ≡ rename s p
 unfolding rename renameRefusal
 rename-fits s p h f =
     answer-zero _ s (renamed p s) (refuse-none (not (rules s)) _ _ (ap not h) (refuse-none (not (isRenaming (replicaCount (s .limits)) p)) _ _ (ap not f) refl))

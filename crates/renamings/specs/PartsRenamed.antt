@@ -34,7 +34,7 @@ empty-renamed from =
     isrOf-cong (λ j. member 0 (from j)) (member 0) (λ j h. member-none (from j) ∙ sym (member-none j)) ∙ isrOf-member 0 (omega arith)
 
 module _ (to from : ℕ → ℕ) where
-  pub no-replica-renamed : renameReplica to from noReplica ≡ noReplica
+  no-replica-renamed : renameReplica to from noReplica ≡ noReplica
   unfolding renameLeader
   no-replica-renamed = rw (empty-renamed from)
 
@@ -47,7 +47,7 @@ module _ (to from : ℕ → ℕ) where
   zero-request-renamed = rw (empty-renamed from)
 
   -- a request of the renamed state
-  pub request-in-renamed : (requests : List Request) (e : ℕ)
+  request-in-renamed : (requests : List Request) (e : ℕ)
       → requestIn (map (renameRequest to from) requests) e ≡ renameRequest to from (requestIn requests e)
   request-in-renamed requests e =
       ap (getD (map (renameRequest to from) requests) e) (sym zero-request-renamed)
@@ -95,7 +95,7 @@ module _ {n : ℕ} (p : Renaming n) (five : n ≤ 5) where
       (λ i h. ap₂ (λ (x y : Bool). not x || y) (member-renamed isr i) (eqb-to p i a)))
 
   -- the ISR is known by its members, so renamed there and back it is the same
-  pub isr-back : (isr : ℕ) → isr < 32 → renameIsr (p .to) (renameIsr (p .from) isr) ≡ isr
+  isr-back : (isr : ℕ) → isr < 32 → renameIsr (p .to) (renameIsr (p .from) isr) ≡ isr
   unfolding renameIsr
   isr-back isr h =
       isrOf-cong (λ j. member (isrOf (λ i. member isr (p .from i))) (p .to j)) (member isr)

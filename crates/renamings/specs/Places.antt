@@ -18,11 +18,11 @@ use Rattle.renamings.specs.Renaming.{Renaming, inverse, compose, to-belo
 use Rattle.renamings.specs.Rows.{distinct-by, renamingOf, five, new-name-five, old-name-five}
 
 -- ---- the five places that hold the new names
-unfoldable pub placesOf : {n : ℕ} → Renaming n → List ℕ
+placesOf : {n : ℕ} → Renaming n → List ℕ
 placesOf p = table 5 (p .to)
 
 module _ {n : ℕ} (small : n ≤ 5) (p : Renaming n) where
-  pub new-name-places : (i : ℕ) → newName (placesOf p) i ≡ p .to i
+  new-name-places : (i : ℕ) → newName (placesOf p) i ≡ p .to i
   unfolding newName placesOf
   new-name-places i =
       elim (decLt i 5) [
@@ -30,7 +30,7 @@ module _ {n : ℕ} (small : n ≤ 5) (p : Renaming n) where
         | no h ↦ rw (le-ltb i 5 (omega arith)) (sym (p .keeps i (omega arith)))
       ]
 
-  pub places-renaming : isRenaming n (placesOf p) ≡ true
+  places-renaming : isRenaming n (placesOf p) ≡ true
   places-renaming =
       distinct-by n (placesOf p)
       (record {
@@ -42,13 +42,13 @@ module _ {n : ℕ} (small : n ≤ 5) (p : Renaming n) where
       apart : (i j : ℕ) → j < i → p .to i ≡ p .to j → ⊥
       apart i j b e = let z : i ≡ j = sym (p .from-to i) ∙ ap (p .from) e ∙ p .from-to j in omega arith
 
-  pub old-name-places : (j : ℕ) → oldName (placesOf p) j ≡ p .from j
+  old-name-places : (j : ℕ) → oldName (placesOf p) j ≡ p .from j
   old-name-places j =
       ap (oldName (placesOf p)) (sym (new-name-places (p .from j) ∙ p .to-from j))
       ∙ renamingOf n small (placesOf p) places-renaming .from-to (p .from j)
 
   -- so the state under them is the state under the renaming
-  pub state-places : (s : State) → renameState (newName (placesOf p)) (oldName (placesOf p)) s ≡ renameState (p .to) (p .from) s
+  state-places : (s : State) → renameState (newName (placesOf p)) (oldName (placesOf p)) s ≡ renameState (p .to) (p .from) s
   state-places s = ap₂ (λ (t f : ℕ → ℕ). renameState t f s) (fun-ext new-name-places) (fun-ext old-name-places)
 
 -- only the first five numbers of a list count
