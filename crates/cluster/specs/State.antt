@@ -11,6 +11,7 @@ use lib.ListN.{getD, set, replicate}
 use Rattle.logic.specs.Table.{table}
 use Rattle.parts.specs.declared.Leader.{Leader}
 use Rattle.parts.specs.declared.Leader.the-variants.{None}
+use Rattle.parts.specs.Mark.{byteAt}
 use Rattle.replica.specs.declared.Replica.{Replica}
 use Rattle.replica.specs.Replica.{zeroReplica, noReplica, tidyReplica, SameReplica}
 use Rattle.cluster.specs.declared.Limits.{Limits}
@@ -34,6 +35,16 @@ maxRecords c = c .«max_records»
 -- X: leader epochs are 0 to X (MaxLeaderEpoch)
 abbrev pub maxLeaderEpoch : Limits → ℕ
 maxLeaderEpoch c = c .«max_leader_epoch»
+
+-- R, L, M and X of a configuration or an image: the four bytes behind its mark
+abbrev pub limitsOf : List ℕ → Limits
+limitsOf bs =
+    record {
+      «replica_count» = byteAt bs 2;
+      «log_size» = byteAt bs 3;
+      «max_records» = byteAt bs 4;
+      «max_leader_epoch» = byteAt bs 5;
+    }
 
 -- the next epoch: so many epochs are used, and so many requests sent
 abbrev pub nextLeaderEpoch : State → ℕ

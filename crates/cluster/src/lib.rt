@@ -11,7 +11,9 @@ pub mod rules;
 mod tidy;
 
 ghost use mathlib.Core.Path.{_≡_};
-ghost use Rattle.cluster.specs.State.{zeroState, tidy};
+ghost use Prim.Native.Nat.{_≤_};
+ghost use lib.ListN.{length};
+ghost use Rattle.cluster.specs.State.{limitsOf, zeroState, tidy};
 ghost use Rattle.cluster.specs.Rules.{brokenRule, stateRefusal};
 ghost use Rattle.cluster.specs.Fresh.{fresh};
 use parts::Leader;
@@ -92,6 +94,19 @@ pub struct Bounds {
 pub struct Outcome {
     pub refusal: u8,
     pub state: State,
+}
+
+// R, L, M and X: the four bytes behind a mark. The caller shows that they are there.
+pub fn limits_of(bytes: &[u8]) -> Limits
+    requires { ⌜ 6 ≤ length (now bytes) ⌝ }
+    ensures { λ r. ⌜ r ≡ limitsOf (now (bytes .entry)) ⌝ }
+{
+    Limits {
+        replica_count: bytes[2],
+        log_size: bytes[3],
+        max_records: bytes[4],
+        max_leader_epoch: bytes[5],
+    }
 }
 
 impl State {

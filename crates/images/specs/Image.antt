@@ -11,6 +11,7 @@ use Rattle.logic.specs.Concat.{concatBelow}
 use Rattle.parts.specs.Refusal.{accepted, brokenState, bufferShort}
 use Rattle.parts.specs.Epoch.{epochByte}
 use Rattle.parts.specs.Leader.{leaderByte}
+use Rattle.parts.specs.Mark.{markFirst}
 use Rattle.replica.specs.declared.Record.{Record}
 use Rattle.replica.specs.declared.Replica.{Replica}
 use Rattle.replica.specs.Replica.{recordAt}
@@ -20,10 +21,7 @@ use Rattle.cluster.specs.State.{replicaCount, logSize, maxRecords, maxLeaderEpo
 use Rattle.cluster.specs.Rules.{rules}
 use Rattle.images.specs.declared.Written.{Written}
 
--- ---- the mark, 4B 53
-abbrev pub markFirst : ℕ
-markFirst = 75
-
+-- ---- the second byte of the mark, 4B 53
 abbrev pub markSecond : ℕ
 markSecond = 83
 

@@ -12,7 +12,8 @@ use lib.Seq.{length-take-le, getD-take, getD-append-add, getD-set-same, getD-set
 use borrow.Author.Tests.{leb-true, le-ltb}
 use Rattle.logic.specs.Table.{table, ext-table, cond-false, splice, splice-turn}
 use Rattle.logic.specs.Concat.{concatBelow, concat-cong}
-use Rattle.images.specs.Read.{Parsed, missing, parsed, andThen, part, fill, byteAt}
+use Rattle.parts.specs.Mark.{byteAt}
+use Rattle.images.specs.Read.{Parsed, missing, parsed, andThen, part, fill}
 use Rattle.images.specs.ReadLaws.{then-parsed, then-from, parsed-value, parsed-rest}
 
 -- every number of the list is a byte; those of a `&[u8]` are (proofs/read_image/Proof.antt)

@@ -2,14 +2,15 @@
 -- of range 1; then front to back, a missing part 21 and an end above L 1 as met; bytes left over 23; other state rules 1."
 -- Assumes nothing.
 use Prim.Native.Nat.{ℕ, zero, suc}
-use mathlib.Core.Bool.{Bool, not, _&&_, cond}
+use mathlib.Core.Bool.{not, cond}
 use mathlib.Core.List.{List, [], _∷_}
-use lib.Dec.{eqb, ltb, leb}
-use lib.ListN.{length, drop, getD, set, replicate}
+use lib.Dec.{ltb, leb}
+use lib.ListN.{length, drop, set, replicate}
 use Rattle.logic.specs.Refuse.{refuse}
 use Rattle.parts.specs.Refusal.{accepted, brokenState, wrongMark, tooShort, badConfiguration, leftOver}
 use Rattle.parts.specs.Epoch.{epochOfByte, lastEpoch}
 use Rattle.parts.specs.Leader.{leaderOfByte}
+use Rattle.parts.specs.Mark.{byteAt, marked}
 use Rattle.replica.specs.declared.Record.{Record}
 use Rattle.replica.specs.declared.Replica.{Replica}
 use Rattle.replica.specs.Replica.{replicaOf, zeroRecord, zeroReplica, withLog}
@@ -17,10 +18,10 @@ use Rattle.cluster.specs.declared.Limits.{Limits}
 use Rattle.cluster.specs.declared.Request.{Request}
 use Rattle.cluster.specs.declared.State.{State}
 use Rattle.cluster.specs.declared.Outcome.{Outcome}
-use Rattle.cluster.specs.State.{replicaCount, logSize, nextLeaderEpoch, zeroRequest, stateOf, withRequests, withReplicas, zeroState}
+use Rattle.cluster.specs.State.{limitsOf, replicaCount, logSize, nextLeaderEpoch, zeroRequest, stateOf, withRequests, withReplicas, zeroState}
 use Rattle.cluster.specs.Rules.{inRange, rule1, rules}
 use Rattle.cluster.specs.Fresh.{answer}
-use Rattle.images.specs.Image.{markFirst, markSecond, headerWidth, requestWidth, replicaWidth, recordWidth}
+use Rattle.images.specs.Image.{markSecond, headerWidth, requestWidth, replicaWidth, recordWidth}
 
 -- ---- a part of an image, read off the front of the bytes
 -- what a part gives: a value and the bytes behind it; or it is missing, or has an end above L
@@ -56,10 +57,6 @@ unfoldable pub fillIn : {A B : Type 0} → (List A → B) → (List ℕ → Pars
 fillIn put read n array bs = andThen (fill read n array bs) (λ l rest. parsed (put l) rest)
 
 -- ---- the parts of an image, each as it is written
--- byte k from the front
-abbrev pub byteAt : List ℕ → ℕ → ℕ
-byteAt bs k = getD bs k 0
-
 -- "(id, epoch) per record"
 abbrev pub recordOf : List ℕ → Record
 recordOf bs = record { id = byteAt bs 0; epoch = epochOfByte (byteAt bs 1) }
@@ -99,15 +96,6 @@ unfoldable pub readReplicas : State → List ℕ → Parsed State
 readReplicas s bs = fillIn (withReplicas s) (readReplica (logSize (s .limits))) (replicaCount (s .limits)) (s .replicas) bs
 
 -- ---- the first ten bytes: mark, R, L, M, X, next epoch, next id, quorum leader, quorum ISR
-abbrev pub limitsOf : List ℕ → Limits
-limitsOf bs =
-    record {
-      «replica_count» = byteAt bs 2;
-      «log_size» = byteAt bs 3;
-      «max_records» = byteAt bs 4;
-      «max_leader_epoch» = byteAt bs 5;
-    }
-
 -- the state that they give, with zeros for requests and replicas; its quorum epoch is next epoch minus 1
 unfoldable pub headerState : List ℕ → State
 headerState bs =
@@ -115,15 +103,12 @@ headerState bs =
     (record { epoch = lastEpoch (byteAt bs 6); leader = leaderOfByte (byteAt bs 8); isr = byteAt bs 9 })
     (replicate 16 zeroRequest) (replicate 5 zeroReplica)
 
-unfoldable pub marked : List ℕ → Bool
-marked bs = eqb (byteAt bs 0) markFirst && eqb (byteAt bs 1) markSecond
-
 -- "under ten bytes 21; mark 20; R, L, M, X out of range 22; next epoch or next id out of range 1": with R, L, M, X in range the
 -- last is S1
 unfoldable pub headerRefusal : List ℕ → ℕ
 headerRefusal bs =
     refuse (ltb (length bs) headerWidth) tooShort
-    (refuse (not (marked bs)) wrongMark
+    (refuse (not (marked markSecond bs)) wrongMark
     (refuse (not (inRange (limitsOf bs))) badConfiguration
     (refuse (not (rule1 (limitsOf bs) (byteAt bs 6) (byteAt bs 7))) brokenState
     accepted)))

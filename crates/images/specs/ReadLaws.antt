@@ -15,16 +15,17 @@ use borrow.Author.Tests.{le-leb, lt-leb, ltb-false, not-false}
 use Rattle.logic.specs.Refuse.{refuse-zero}
 use Rattle.logic.specs.Table.{cond-true, cond-false}
 use Rattle.parts.specs.Refusal.{accepted, brokenState, tooShort, leftOver}
+use Rattle.parts.specs.Mark.{byteAt, marked}
 use Rattle.replica.specs.declared.Record.{Record}
 use Rattle.replica.specs.declared.Replica.{Replica}
 use Rattle.cluster.specs.declared.Request.{Request}
 use Rattle.cluster.specs.declared.State.{State}
-use Rattle.cluster.specs.State.{logSize, nextLeaderEpoch, withRequests}
+use Rattle.cluster.specs.State.{limitsOf, logSize, nextLeaderEpoch, withRequests}
 use Rattle.cluster.specs.Rules.{inRange, rule1, rules, Bounded}
 use Rattle.cluster.specs.RuleLaws.{Sizes, sizes-of, bounded-of}
 use Rattle.cluster.specs.Fresh.{answer}
-use Rattle.images.specs.Image.{headerWidth, replicaWidth}
-use Rattle.images.specs.Read.{Parsed, missing, endAbove, parsed, refusalOf, andThen, part, fill, fillIn, byteAt, readRequest, replicaOfHead, readRequests, headerState, readLog, readLogWithin, readReplica, limitsOf, marked, headerRefusal, refused, finished, readBody, readBy, readImage}
+use Rattle.images.specs.Image.{markSecond, headerWidth, replicaWidth}
+use Rattle.images.specs.Read.{Parsed, missing, endAbove, parsed, refusalOf, andThen, part, fill, fillIn, readRequest, replicaOfHead, readRequests, headerState, readLog, readLogWithin, readReplica, headerRefusal, refused, finished, readBody, readBy, readImage}
 
 -- ---- the arrays that the parts are stored in
 abbrev pub logOf : Replica → List Record
@@ -185,19 +186,19 @@ then-read m next bs number at x rest value h r = rw (then-parsed m next x rest h
 -- what they say where they are not refused
 pub record HeaderInRange (bs : List ℕ) : Type 0 where
   pub long : headerWidth ≤ length bs
-  pub mark : marked bs ≡ true
+  pub mark : marked markSecond bs ≡ true
   pub sizes : rule1 (limitsOf bs) (byteAt bs 6) (byteAt bs 7) ≡ true
 
 pub header-in-range : (bs : List ℕ) → headerRefusal bs ≡ accepted → HeaderInRange bs
 unfolding headerRefusal
 header-in-range bs h =
     let a = refuse-zero (ltb (length bs) headerWidth) 20 _ h in
-    let b = refuse-zero (not (marked bs)) 19 _ (a .1) in
+    let b = refuse-zero (not (marked markSecond bs)) 19 _ (a .1) in
     let c = refuse-zero (not (inRange (limitsOf bs))) 21 _ (b .1) in
     let d = refuse-zero (not (rule1 (limitsOf bs) (byteAt bs 6) (byteAt bs 7))) 0 _ (c .1) in
     record {
       long = ltb-false (length bs) headerWidth (a .0);
-      mark = not-false (marked bs) (b .0);
+      mark = not-false (marked markSecond bs) (b .0);
       sizes = not-false (rule1 (limitsOf bs) (byteAt bs 6) (byteAt bs 7)) (d .0);
     }
 

@@ -20,6 +20,7 @@ use Rattle.parts.specs.IsrLaws.{below-32}
 use Rattle.parts.specs.Epoch.{epochByte, epochOfByte, lastEpoch}
 use Rattle.parts.specs.Leader.{leaderByte, leaderOfByte}
 use Rattle.parts.specs.ByteLaws.{epoch-back, epoch-byte-back, leader-back, leader-byte-back}
+use Rattle.parts.specs.Mark.{byteAt, markFirst, marked}
 use Rattle.replica.specs.declared.Record.{Record}
 use Rattle.replica.specs.declared.Replica.{Replica}
 use Rattle.replica.specs.Replica.{replicaOf, zeroRecord, zeroReplica, noReplica, recordAt, withLog, tidyRecord, tidyReplica}
@@ -33,9 +34,9 @@ use Rattle.cluster.specs.RuleLaws.{rules-bounded}
 use Rattle.cluster.specs.Predicates.{Named, MatchesRequest, rules-iff}
 use Rattle.cluster.specs.Unused.{rules-tidy}
 use Rattle.cluster.specs.Fresh.{answer}
-use Rattle.images.specs.Image.{markFirst, markSecond, recordBytes, recordBytesAt, logBytes, requestBytes, requestBytesAt, requestsBytes, replicaHead, replicaBytes, replicaBytesAt, replicasBytes, headerBytes, image, headerWidth, requestWidth, replicaWidth, recordWidth}
+use Rattle.images.specs.Image.{markSecond, recordBytes, recordBytesAt, logBytes, requestBytes, requestBytesAt, requestsBytes, replicaHead, replicaBytes, replicaBytesAt, replicasBytes, headerBytes, image, headerWidth, requestWidth, replicaWidth, recordWidth}
 use Rattle.images.specs.ImageLaws.{image-length}
-use Rattle.images.specs.Read.{Parsed, missing, endAbove, parsed, andThen, part, fill, fillIn, byteAt, recordOf, readRecord, requestOf, readRequest, replicaOfHead, readLog, readLogWithin, readReplica, readRequests, readReplicas, headerState, marked, headerRefusal, refused, finished, readBody, readBy, readImage, refusalOf}
+use Rattle.images.specs.Read.{Parsed, missing, endAbove, parsed, andThen, part, fill, fillIn, recordOf, readRecord, requestOf, readRequest, replicaOfHead, readLog, readLogWithin, readReplica, readRequests, readReplicas, headerState, headerRefusal, refused, finished, readBody, readBy, readImage, refusalOf}
 use Rattle.images.specs.ReadLaws.{part-back, then-parsed, then-from, parsed-value, parsed-rest, HeaderInRange, header-in-range, header-sizes}
 use Rattle.images.specs.PartLaws.{Bytes, bytes-none, bytes-more, bytes-append, bytes-concat, bytes-behind, front, part-read-back, fill-back, Faithful, fill-read-back}
 
@@ -190,7 +191,7 @@ header-accepted s h =
     let tests = every-at (ruleTests s) h in
     let range : inRange (s .limits) ≡ true = every-at (rule1Tests (s .limits) (nextLeaderEpoch s) (nextRecordId s)) (tests 0) 0 in
     refuse-none (ltb (length (image s)) headerWidth) tooShort _ (le-ltb (length (image s)) headerWidth (omega (arith, image-length s)))
-    (refuse-none (not (marked (image s))) wrongMark _ refl
+    (refuse-none (not (marked markSecond (image s))) wrongMark _ refl
     (refuse-none (not (inRange (s .limits))) badConfiguration _ (ap not range)
     (refuse-none (not (rule1 (s .limits) (nextLeaderEpoch s) (nextRecordId s))) brokenState accepted (ap not (tests 0)) refl)))
 

@@ -10,9 +10,7 @@ use cluster::State;
 use parts::refusal::ACCEPTED;
 use parts::refusal::BUFFER_SHORT;
 
-// The mark of a state image: 4B 53.
-const MARK_FIRST: u8 = 75;
-
+// The second byte of the mark of a state image, 4B 53.
 const MARK_SECOND: u8 = 83;
 
 // How many bytes the first part, a request, a replica without its log, and a record have.

@@ -5,24 +5,24 @@ ghost use mathlib.Core.Path.{_≡_};
 ghost use Prim.Native.Nat.{_+_, _≤_};
 ghost use lib.ListN.{length, drop};
 ghost use Rattle.parts.specs.Refusal.{accepted};
+ghost use Rattle.parts.specs.Mark.{byteAt};
 ghost use Rattle.cluster.specs.State.{logSize};
 ghost use Rattle.cluster.specs.Rules.{Bounded};
 ghost use Rattle.images.specs.Image.{headerWidth, requestWidth, replicaWidth, recordWidth};
-ghost use Rattle.images.specs.Read.{byteAt, recordOf, requestOf, replicaOfHead, readLog, readReplica, readRequests, readReplicas, limitsOf, headerState, marked, headerRefusal, refused, finished, parsed, readBody};
+ghost use Rattle.images.specs.Read.{recordOf, requestOf, replicaOfHead, readLog, readReplica, readRequests, readReplicas, headerState, headerRefusal, refused, finished, parsed, readBody};
 ghost use Rattle.images.specs.ReadLaws.{ReadAs};
 use crate::HEADER_WIDTH;
-use crate::MARK_FIRST;
 use crate::MARK_SECOND;
 use crate::RECORD_WIDTH;
 use crate::REPLICA_WIDTH;
 use crate::REQUEST_WIDTH;
-use cluster::Limits;
 use cluster::Outcome;
 use cluster::Quorum;
 use cluster::Request;
 use cluster::State;
 use cluster::rules;
 use parts::Leader;
+use parts::mark;
 use parts::refusal::ACCEPTED;
 use parts::refusal::BAD_CONFIGURATION;
 use parts::refusal::BROKEN_STATE;
@@ -205,30 +205,6 @@ fn read_replicas(bytes: &[u8], at: usize, s: State) -> StateRead
     }
 }
 
-// Whether the bytes begin with the mark of a state image.
-fn is_marked(bytes: &[u8]) -> bool
-    requires { ⌜ 2 ≤ length (now bytes) ⌝ }
-    ensures { λ r. ⌜ r ≡ marked (now (bytes .entry)) ⌝ }
-{
-    if bytes[0] == MARK_FIRST {
-        return bytes[1] == MARK_SECOND;
-    }
-    false
-}
-
-// R, L, M, X.
-fn limits_of(bytes: &[u8]) -> Limits
-    requires { ⌜ headerWidth ≤ length (now bytes) ⌝ }
-    ensures { λ r. ⌜ r ≡ limitsOf (now (bytes .entry)) ⌝ }
-{
-    Limits {
-        replica_count: bytes[2],
-        log_size: bytes[3],
-        max_records: bytes[4],
-        max_leader_epoch: bytes[5],
-    }
-}
-
 // The refusal by the first ten bytes; 0 where they are in range.
 pub(crate) fn header_refusal(bytes: &[u8]) -> u8
     ensures { λ r. ⌜ r ≡ headerRefusal (now (bytes .entry)) ⌝ }
@@ -236,10 +212,10 @@ pub(crate) fn header_refusal(bytes: &[u8]) -> u8
     if bytes.len() < HEADER_WIDTH {
         return TOO_SHORT;
     }
-    if !is_marked(bytes) {
+    if !mark::is_marked(bytes, MARK_SECOND) {
         return WRONG_MARK;
     }
-    let c = limits_of(bytes);
+    let c = cluster::limits_of(bytes);
     if !rules::limits_in_range(c) {
         return BAD_CONFIGURATION;
     }
@@ -256,7 +232,7 @@ fn header_state(bytes: &[u8]) -> State
     requires { ⌜ byteAt (now bytes) 6 ≤ 16 ⌝ }
     ensures { λ r. ⌜ r ≡ headerState (now (bytes .entry)) ⌝ }
 {
-    let limits = limits_of(bytes);
+    let limits = cluster::limits_of(bytes);
     let epoch = parts::last_epoch(bytes[6]);
     let leader = Leader::of_byte(bytes[8]);
     let quorum = Quorum {

@@ -8,13 +8,13 @@ ghost use Rattle.cluster.specs.Rules.{rules, Bounded, LogsBounded};
 ghost use Rattle.logic.specs.Stores.{Stored};
 ghost use Rattle.images.specs.Image.{recordBytes, logBytes, requestBytes, requestsBytes, replicaBytes, replicasBytes, headerBytes, image};
 use crate::HEADER_WIDTH;
-use crate::MARK_FIRST;
 use crate::MARK_SECOND;
 use crate::RECORD_WIDTH;
 use crate::REPLICA_WIDTH;
 use crate::REQUEST_WIDTH;
 use cluster::Request;
 use cluster::State;
+use parts::mark;
 use replica::Record;
 use replica::Replica;
 
@@ -120,7 +120,7 @@ fn put_header(out: &mut [u8], s: State) -> usize
     let q = s.quorum;
     let l = q.leader;
     let leader = l.byte();
-    out[0] = MARK_FIRST;
+    out[0] = mark::FIRST;
     out[1] = MARK_SECOND;
     out[2] = c.replica_count;
     out[3] = c.log_size;

@@ -1,6 +1,8 @@
--- The greatest of the numbers that a function gives below a bound. Assumes nothing.
-use Prim.Native.Nat.{ℕ, zero, suc, _≤_, _<_, max}
+-- The greatest of the numbers that a function gives below a bound, and of a list of numbers. Assumes nothing.
+use Prim.Native.Nat.{ℕ, zero, suc, _+_, _≤_, _<_, max}
 use mathlib.Core.Path.{_≡_, refl, sym, ap₂, subst}
+use mathlib.Core.List.{List, [], _∷_}
+use native.Mathlib.Numerals.{add-one}
 use native.Mathlib.Omega.{arith}
 use native.Mathlib.Decide.{ℕ-discrete}
 
@@ -8,6 +10,15 @@ use native.Mathlib.Decide.{ℕ-discrete}
 unfoldable pub greatestBelow : ℕ → (ℕ → ℕ) → ℕ
 greatestBelow zero f = 0
 greatestBelow (suc n) f = max (f n) (greatestBelow n f)
+
+-- the turns of a loop that works it out: its start, and one more
+pub greatest-none : (f : ℕ → ℕ) → greatestBelow 0 f ≡ 0
+unfolding greatestBelow
+greatest-none f = refl
+
+pub greatest-more : (n : ℕ) (f : ℕ → ℕ) → max (f n) (greatestBelow n f) ≡ greatestBelow (n + 1) f
+unfolding greatestBelow
+greatest-more n f = rw add-one
 
 -- none of them is greater
 pub greatest-at : (n : ℕ) (f : ℕ → ℕ) (i : ℕ) → i < n → f i ≤ greatestBelow n f
@@ -33,3 +44,8 @@ pub greatest-cong : (n : ℕ) (f g : ℕ → ℕ) → ((i : ℕ) → i < n → f
 unfolding greatestBelow
 greatest-cong zero f g h = refl
 greatest-cong (suc n) f g h = ap₂ max (h n (omega arith)) (greatest-cong n f g (λ i l. h i (omega arith)))
+
+-- the greatest number of a list, and 0 where it has none
+unfoldable pub greatestOf : List ℕ → ℕ
+greatestOf [] = 0
+greatestOf (x ∷ xs) = max x (greatestOf xs)

@@ -6,6 +6,7 @@ pub mod Search
 pub mod Concat
 pub mod Stores
 pub mod Greatest
+pub mod Pieces
 pub mod Order
 pub mod Least
 pub mod Maps

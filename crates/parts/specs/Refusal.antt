@@ -101,6 +101,10 @@ leftOver = 23
 abbrev pub bufferShort : ℕ
 bufferShort = 24
 
+-- the run has more than 65,532 bytes
+abbrev pub runTooLong : ℕ
+runTooLong = 25
+
 -- no operands are accepted, so there is nothing to offer
 abbrev pub noOffer : ℕ
 noOffer = 26

@@ -48,6 +48,8 @@ pub const BAD_CONFIGURATION: u8 = 22;
 pub const LEFT_OVER: u8 = 23;
 // The lent buffer is shorter than the answer.
 pub const BUFFER_SHORT: u8 = 24;
+// The run has more than 65,532 bytes.
+pub const RUN_TOO_LONG: u8 = 25;
 // No operands are accepted, so there is nothing to offer.
 pub const NO_OFFER: u8 = 26;
 // The five places are not a renaming of the replicas.

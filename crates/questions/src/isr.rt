@@ -1,7 +1,8 @@
-// What weak and strong ISR ask of a leader and a member.
+// What weak and strong ISR ask of a leader and a member, and what a leader exposes.
 ghost use mathlib.Core.Path.{_≡_};
 ghost use Prim.Native.Nat.{_<_};
 ghost use Rattle.questions.specs.Isr.{isrAsked, offsetsAsked};
+ghost use Rattle.questions.specs.Exposed.{presumingHw};
 use crate::Property;
 use cluster::State;
 
@@ -30,6 +31,18 @@ pub(crate) fn offsets_asked(property: Property, s: State, leader: u8, member: u8
             let p = s.replica_at(leader);
             return p.hw;
         }
+    }
+    0
+}
+
+// The high watermark of a replica that presumes leadership, else 0. The caller shows that the array has the replica.
+pub(crate) fn presuming_hw(s: State, r: u8) -> u8
+    requires { ⌜ r < 5 ⌝ }
+    ensures { λ hw. ⌜ hw ≡ presumingHw s r ⌝ }
+{
+    if s.replica_presumes_leadership(r) {
+        let p = s.replica_at(r);
+        return p.hw;
     }
     0
 }

@@ -1,4 +1,4 @@
-// Three questions about a state: weak ISR, strong ISR, and what action it offers.
+// Three questions about a state: weak ISR, strong ISR, and what action it offers; and what it exposes.
 mod isr;
 mod search;
 
@@ -6,6 +6,7 @@ ghost use mathlib.Core.Path.{_≡_};
 ghost use mathlib.Core.Bool.{true};
 ghost use Rattle.cluster.specs.Rules.{rules};
 ghost use Rattle.questions.specs.Isr.{checkIsr, askIsr, weakIsr, strongIsr};
+ghost use Rattle.questions.specs.Exposed.{exposed};
 ghost use Rattle.questions.specs.Offer.{offer};
 use cluster::Kind;
 use cluster::State;
@@ -107,6 +108,23 @@ pub fn strong_isr(s: State) -> IsrAnswer
     ensures { λ r. ⌜ r ≡ strongIsr s ⌝ }
 {
     ask_isr(Property::StrongIsr, s)
+}
+
+// Exposed: the greatest high watermark of any replica that presumes leadership, and 0 where none does. The caller shows that the
+// state meets the rules.
+pub fn exposed(s: State) -> u8
+    requires { ⌜ rules s ≡ true ⌝ }
+    ensures { λ r. ⌜ r ≡ exposed s ⌝ }
+{
+    let c = s.limits;
+    let n = c.replica_count;
+    let mut most: u8 = 0;
+    let mut r: u8 = 0;
+    while r < n {
+        most = parts::larger(isr::presuming_hw(s, r), most);
+        r = r + 1;
+    }
+    most
 }
 
 // The smallest accepted action of a kind, by (a, b, e); 1, 2 or 26 where there is none. It is looked for on the tidy state,

@@ -7,10 +7,12 @@ use borrow.Author.Needs.{needs}
 use borrow.Author.Tests.{lt-ltb, le-ltb, not-true, not-false}
 use Rattle.logic.specs.Refuse.{refuse, refuse-yes, refuse-no}
 use Rattle.parts.specs.Refusal.{tooShort, wrongMark, badConfiguration, brokenState}
+use Rattle.parts.specs.Mark.{byteAt, marked}
 use Rattle.cluster.specs.declared.Limits.{Limits}
+use Rattle.cluster.specs.State.{limitsOf}
 use Rattle.cluster.specs.Rules.{inRange, rule1}
-use Rattle.images.specs.Image.{headerWidth}
-use Rattle.images.specs.Read.{byteAt, limitsOf, marked, headerRefusal}
+use Rattle.images.specs.Image.{markSecond, headerWidth}
+use Rattle.images.specs.Read.{headerRefusal}
 use Rattle.images.proofs.read.header_refusal.Statement.{statement}
 use Rattle.images.proofs.read.header_refusal.Tie as tie
 
@@ -19,14 +21,14 @@ long : (z : tie.Else1) (rest : ℕ) → rest ≡ refuse (ltb (length (z .before 
 long z rest = refuse-no _ tooShort rest (le-ltb _ headerWidth (z .if1 .left))
 
 mark : (z : tie.Else2) (rest : ℕ)
-    → rest ≡ refuse (ltb (length (z .before .before .before .before .args .bytes .now)) headerWidth) tooShort (refuse (not (marked (z .before .before .before .before .args .bytes .now))) wrongMark rest)
+    → rest ≡ refuse (ltb (length (z .before .before .before .before .args .bytes .now)) headerWidth) tooShort (refuse (not (marked markSecond (z .before .before .before .before .args .bytes .now))) wrongMark rest)
 mark z rest =
-    refuse-no (not (marked (z .before .before .before .before .args .bytes .now))) wrongMark rest (ap not (sym (z .before .is-marked .ensures) ∙ not-false _ (z .if2 .left)))
+    refuse-no (not (marked markSecond (z .before .before .before .before .args .bytes .now))) wrongMark rest (ap not (sym (z .before .is-marked .ensures) ∙ not-false _ (z .if2 .left)))
     ∙ long (z .before .before) _
 
 range : (z : tie.Else3) (rest : ℕ)
     → rest ≡ refuse (ltb (length (z .before .before .before .before .before .before .before .args .bytes .now)) headerWidth) tooShort
-    (refuse (not (marked (z .before .before .before .before .before .before .before .args .bytes .now))) wrongMark
+    (refuse (not (marked markSecond (z .before .before .before .before .before .before .before .args .bytes .now))) wrongMark
     (refuse (not (inRange (limitsOf (z .before .before .before .before .before .before .before .args .bytes .now)))) badConfiguration rest))
 range z rest =
     refuse-no (not (inRange (limitsOf (z .before .before .before .before .before .before .before .args .bytes .now)))) badConfiguration rest

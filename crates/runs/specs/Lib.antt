@@ -1,0 +1,4 @@
+pub mod Run
+pub mod RecordLaws
+pub mod Opening
+pub mod Judging

@@ -1,0 +1,77 @@
+// Judges a run: records of six bytes, the first a configuration, the others actions.
+mod judging;
+mod record;
+
+ghost use mathlib.Core.Path.{_≡_};
+ghost use mathlib.Core.Bool.{true};
+ghost use Prim.Native.Nat.{_≤_};
+ghost use lib.ListN.{length};
+ghost use Rattle.cluster.specs.State.{tidy};
+ghost use Rattle.cluster.specs.Rules.{rules};
+ghost use Rattle.runs.specs.Run.{recordWidth, longestRun, recordsOf, traceFrom, verdictFrom, judge};
+use cluster::State;
+use parts::refusal::ACCEPTED;
+use parts::refusal::RUN_TOO_LONG;
+use parts::refusal::TOO_SHORT;
+
+// How many bytes a record has.
+const RECORD_WIDTH: usize = 6;
+
+// The most bytes that a run has.
+pub const LONGEST_RUN: usize = 65532;
+
+// The verdict of a run: how many actions were accepted; the refusal, or 0; the byte where the refused record starts, or the
+// length of the run; how many actions were accepted when weak ISR, and when strong ISR, first failed, or 0; the greatest high
+// watermark of any presuming replica in any state; the last state, all zeros where no configuration was accepted.
+pub struct Verdict {
+    pub accepted: usize,
+    pub refusal: u8,
+    pub at: usize,
+    pub weak: usize,
+    pub strong: usize,
+    pub exposed: u8,
+    pub state: State,
+}
+
+// The verdict of a run of any bytes.
+pub fn judge(run: &[u8]) -> Verdict
+    ensures { λ r. ⌜ r ≡ judge (now (run .entry)) ⌝ }
+{
+    if LONGEST_RUN < run.len() {
+        return Verdict::unopened(RUN_TOO_LONG);
+    }
+    if run.len() < RECORD_WIDTH {
+        return Verdict::unopened(TOO_SHORT);
+    }
+    let first = record::configure(&run[0..RECORD_WIDTH]);
+    if first.refusal != ACCEPTED {
+        return Verdict::unopened(first.refusal);
+    }
+    judge_actions(run, first.state)
+}
+
+// The verdict from the configuration's fresh state on. The caller shows that the run is neither too long nor too short, and that
+// the state meets the rules and is tidy. Each record goes to its reader as its own part of the run; the rules are not tested
+// and no room is tidied again, since an accepted action keeps both.
+fn judge_actions(run: &[u8], fresh: State) -> Verdict
+    requires { ⌜ length (now run) ≤ longestRun ⌝ }
+    requires { ⌜ recordWidth ≤ length (now run) ⌝ }
+    requires { ⌜ rules fresh ≡ true ⌝ }
+    requires { ⌜ tidy fresh ≡ fresh ⌝ }
+    ensures { λ r. ⌜ r ≡ verdictFrom fresh (traceFrom fresh recordWidth (recordsOf (now (run .entry)))) ⌝ }
+{
+    let mut v = Verdict::begun(fresh);
+    while v.at < run.len() {
+        let at = v.at;
+        if run.len() - at < RECORD_WIDTH {
+            return v.refused_by(TOO_SHORT);
+        }
+        let state = v.state;
+        let outcome = record::act_on(state, &run[at..at + RECORD_WIDTH]);
+        if outcome.refusal != ACCEPTED {
+            return v.refused_by(outcome.refusal);
+        }
+        v = v.after(outcome.state);
+    }
+    v
+}
