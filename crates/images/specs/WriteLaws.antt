@@ -1,15 +1,16 @@
 -- What writing an image answers, case by case: the state breaks a rule, the buffer is short, or the image is written; and the
 -- bytes of a part stored one by one. Assumes nothing.
-use Prim.Native.Nat.{ℕ, suc, _+_, _≤_, _<_}
+use Prim.Native.Nat.{ℕ, zero, suc, _+_, _≤_, _<_}
 use mathlib.Core.Path.{_≡_, refl, sym, _∙_, ap}
 use mathlib.Core.Bool.{true, false, not}
 use mathlib.Core.List.{List, [], _∷_, _++_}
+use native.Mathlib.Omega.{arith}
 use native.Mathlib.Numerals.{towards-suc}
 use lib.Dec.{ltb}
-use lib.ListN.{length, drop, set}
-use borrow.Author.Tests.{lt-ltb, le-ltb}
+use lib.ListN.{length, drop, set, length-append, length-drop}
+use borrow.Author.Tests.{lt-ltb, le-ltb, ltb-false}
 use Rattle.logic.specs.Stores.{Stored}
-use Rattle.logic.specs.Refuse.{refuse-yes, refuse-no}
+use Rattle.logic.specs.Refuse.{refuse-yes, refuse-no, refuse-zero}
 use Rattle.parts.specs.Refusal.{accepted, brokenState, bufferShort}
 use Rattle.cluster.specs.declared.State.{State}
 use Rattle.cluster.specs.Rules.{rules}
@@ -51,6 +52,17 @@ module _ (s : State) (buffer : List ℕ) where
           sym
           (refuse-no (ltb (length buffer) (length (image s))) bufferShort accepted (le-ltb (length buffer) (length (image s)) k)
           ∙ refuse-no (not (rules s)) brokenState _ (ap not h))
+
+-- what is answered fits the buffer, which stays as long as it was
+pub written-fits : (s : State) (buffer : List ℕ) → (writeImage s buffer .length ≤ length buffer) × (length (bufferAfter s buffer) ≡ length buffer)
+unfolding writeImage writtenBy bufferAfter bufferBy writeRefusal
+written-fits s buffer = go (writeRefusal s buffer) refl
+  where
+    go : (n : ℕ) → writeRefusal s buffer ≡ n → (writtenBy n s .length ≤ length buffer) × (length (bufferBy n s buffer) ≡ length buffer)
+    go zero e =
+        let k = ltb-false (length buffer) (length (image s)) (refuse-zero _ 23 _ (refuse-zero _ 0 _ e .1) .0) in
+        (k, rw (length-append, length-drop) (omega (arith, k)))
+    go (suc n) e = (omega arith, refl)
 
 -- ---- two bytes, and five, stored one by one
 pub stored-2 : (l : List ℕ) (at a b : ℕ) → Stored l at (a ∷ b ∷ []) (set (set l at a) (at + 1) b) (at + 2)

@@ -1,0 +1,61 @@
+// The verdict as seven lines of text.
+ghost use mathlib.Core.Path.{_≡_};
+ghost use Prim.Native.Nat.{_≤_, _<_};
+ghost use lib.ListN.{length};
+use cluster::State;
+use libc::STDOUT_FILENO;
+use parts::refusal::ACCEPTED;
+use runs::Verdict;
+
+// One name, one space and one number.
+fn line(name: &[u8], number: usize) {
+    io::write_all(STDOUT_FILENO, name);
+    io::write_all(STDOUT_FILENO, b" ");
+    io::print_decimal(STDOUT_FILENO, number as u64);
+    io::write_all(STDOUT_FILENO, b"\n");
+}
+
+// A hexadecimal digit, in capitals. The caller shows that the number has one digit.
+fn digit(n: u8) -> u8
+    requires { ⌜ n < 16 ⌝ }
+{
+    if n < 10 {
+        return b'0' + n;
+    }
+    b'A' + (n - 10)
+}
+
+// Bytes in hexadecimal.
+fn hex(bytes: &[u8]) {
+    let mut i: usize = 0;
+    while i < bytes.len() {
+        let b = bytes[i];
+        let pair = [digit(b / 16), digit(b % 16)];
+        io::write_all(STDOUT_FILENO, &pair);
+        i = i + 1;
+    }
+}
+
+// The image of the state; `none` where there is none, which is the all-zero state.
+fn state(s: State) {
+    let mut image = [0u8; images::LONGEST];
+    io::write_all(STDOUT_FILENO, b"state ");
+    let written = images::write_image(s, &mut image);
+    let length = written.length;
+    if written.refusal == ACCEPTED {
+        hex(&image[..length]);
+    } else {
+        io::write_all(STDOUT_FILENO, b"none");
+    }
+    io::write_all(STDOUT_FILENO, b"\n");
+}
+
+pub(crate) fn verdict(v: Verdict) {
+    line(b"accepted", v.accepted);
+    line(b"refusal", v.refusal as usize);
+    line(b"at", v.at);
+    line(b"weak", v.weak);
+    line(b"strong", v.strong);
+    line(b"exposed", v.exposed as usize);
+    state(v.state);
+}
