@@ -8,4 +8,3 @@ pub mod Changes
 pub mod Kinds
 pub mod Kept
 pub mod Answers
-pub mod Examples

@@ -10,3 +10,4 @@ pub mod Pieces
 pub mod Order
 pub mod Least
 pub mod Maps
+pub mod Each

@@ -1,12 +1,17 @@
 -- A list cut into pieces of one width, the last of which has what is left; and pieces put together again. Assumes nothing.
-use Prim.Native.Nat.{ℕ, zero, suc, _≤_, _<_, min}
+use Prim.Native.Nat.{ℕ, zero, suc, _+_, _*_, _≤_, _<_, min}
 use mathlib.Core.Path.{_≡_, refl, sym, ap, ap₂, _∙_}
 use mathlib.Core.List.{List, [], _∷_, _++_, map, append-nil}
+use mathlib.Core.Logic.{_↔_}
 use native.Mathlib.Omega.{arith}
 use native.Mathlib.Nat.{le-refl}
 use native.Mathlib.Decide.{decLt}
-use lib.ListN.{length, take, drop, length-append, length-take, length-drop, drop-of-length-le, take-append-drop}
-use lib.Seq.{take-all, take-at, drop-at}
+use lib.ListN.{length, take, drop, getD, length-append, length-take, length-drop, drop-of-length-le, take-append-drop}
+use lib.Seq.{take-nil, drop-nil, take-all, take-at, drop-at, take-add, drop-drop}
+
+-- one width more
+one-more : (width k : ℕ) → suc width * suc k ≡ suc width + suc width * k
+one-more width k = omega arith
 
 module _ {A : Type 0} where
   -- at most k pieces
@@ -53,6 +58,37 @@ module _ {A : Type 0} where
   pieces-more width (x ∷ l) h =
       ap (λ (t : List (List A)). take (suc width) (x ∷ l) ∷ t)
       (enough (length l) (length (drop (suc width) (x ∷ l))) width (drop (suc width) (x ∷ l)) (drop-shorter (length l) width x l (le-refl _)) (le-refl _))
+
+  -- ---- the pieces by number
+  module _ (width : ℕ) where
+    -- there are at most k exactly where k widths hold the list
+    pub pieces-few : (k : ℕ) (l : List A) → length (pieces (suc width) l) ≤ k ↔ length l ≤ suc width * k
+    pieces-few zero [] = rw (pieces-none (suc width) [] (le-refl 0)) (omega arith)
+    pieces-few zero (x ∷ l) = rw (pieces-more width (x ∷ l) (omega arith)) (omega arith)
+    pieces-few (suc k) [] = rw (pieces-none (suc width) [] (le-refl 0)) (omega arith)
+    pieces-few (suc k) (x ∷ l) =
+        let rest = rw (length-drop (suc width) (x ∷ l)) at (pieces-few k (drop (suc width) (x ∷ l))) in
+        rw (pieces-more width (x ∷ l) (omega arith), one-more)
+        ((λ h. omega (arith, rest .0 (omega arith))), (λ h. omega (arith, rest .1 (omega arith))))
+
+    -- piece k starts behind k widths
+    pub piece-at : (k : ℕ) (l : List A) → getD (pieces (suc width) l) k [] ≡ take (suc width) (drop (suc width * k) l)
+    piece-at zero [] = rw (pieces-none (suc width) [] (le-refl 0), drop-nil)
+    piece-at zero (x ∷ l) = let e : suc width * 0 ≡ 0 = omega arith in rw (pieces-more width (x ∷ l) (omega arith), e)
+    piece-at (suc k) [] = rw (pieces-none (suc width) [] (le-refl 0), drop-nil)
+    piece-at (suc k) (x ∷ l) =
+        rw (pieces-more width (x ∷ l) (omega arith), one-more)
+        (piece-at k (drop (suc width) (x ∷ l)) ∙ ap (take (suc width)) (drop-drop (suc width * k) (suc width) (x ∷ l)))
+
+    -- and those before it are the front up to there
+    pub front-pieces : (k : ℕ) (l : List A) → joined (take k (pieces (suc width) l)) ≡ take (suc width * k) l
+    unfolding joined
+    front-pieces zero l = let e : suc width * 0 ≡ 0 = omega arith in rw e
+    front-pieces (suc k) [] = rw (pieces-none (suc width) [] (le-refl 0), take-nil)
+    front-pieces (suc k) (x ∷ l) =
+        rw (pieces-more width (x ∷ l) (omega arith), one-more)
+        (ap (λ (t : List A). take (suc width) (x ∷ l) ++ t) (front-pieces k (drop (suc width) (x ∷ l)))
+        ∙ sym (take-add (suc width) (suc width * k) (x ∷ l)))
 
   -- ---- a list changed piece by piece, by a function that changes no length
   module _ (width : ℕ) (f : List A → List A) (keeps : (l : List A) → length (f l) ≡ length l) where

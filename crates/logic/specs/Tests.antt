@@ -8,7 +8,7 @@ use mathlib.Core.Logic.{_↔_}
 use native.Mathlib.Numerals.{add-one}
 use native.Mathlib.Omega.{arith}
 use native.Mathlib.Decide.{ℕ-discrete}
-use lib.ListN.{getD}
+use lib.ListN.{length, getD}
 
 -- ---- Booleans
 abbrev Code : Bool → Type 0
@@ -188,6 +188,13 @@ pub failing-cong : (k : ℕ) (a b : Bool) (ls ms : List Bool) → a ≡ b
 unfolding firstFailing
 failing-cong k true b ls ms p f = f refl ∙ ap (λ c. firstFailing k (c ∷ ms)) p
 failing-cong k false b ls ms p f = ap (λ c. firstFailing k (c ∷ ms)) p
+
+-- it has at most the number of the last
+pub failing-within : (k : ℕ) (bs : List Bool) → firstFailing (suc k) bs ≤ k + length bs
+unfolding firstFailing
+failing-within k [] = omega arith
+failing-within k (true ∷ bs) = omega (arith, failing-within (suc k) bs)
+failing-within k (false ∷ bs) = omega arith
 
 -- numbered from 1 on, it is 0 exactly where every test holds
 pub failing-zero : (k : ℕ) (bs : List Bool) → firstFailing (suc k) bs ≡ 0 ↔ every bs ≡ true

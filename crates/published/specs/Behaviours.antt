@@ -4,6 +4,7 @@ use mathlib.Core.Path.{_≡_, _∙_, ap}
 use mathlib.Core.Bool.{true}
 use mathlib.Core.List.{List, [], _∷_, map}
 use mathlib.Core.Logic.{_↔_}
+use Rattle.logic.specs.Each.{Each, each-by}
 use Rattle.parts.specs.Refusal.{accepted}
 use Rattle.cluster.specs.declared.Limits.{Limits}
 use Rattle.cluster.specs.declared.State.{State}
@@ -43,15 +44,6 @@ MeanAll c (u ∷ us) (s ∷ ss) = Means c u s × MeanAll c us ss
 -- u is the meaning of a state of this configuration that meets S1 to S7
 abbrev pub MeetsRules : Limits → ModelState → Type 0
 MeetsRules c u = (s : State) × (rules s ≡ true) × (s .limits ≡ c) × Means c u s
-
--- each state of the list is so
-abbrev pub Each : (ModelState → Type 0) → List ModelState → Type 0
-Each P [] = Unit {0}
-Each P (u ∷ us) = P u × Each P us
-
-each-by : (P Q : ModelState → Type 0) → ((u : ModelState) → P u → Q u) → (us : List ModelState) → Each P us → Each Q us
-each-by P Q f [] h = tt
-each-by P Q f (u ∷ us) h = (f u (h .0), each-by P Q f us (h .1))
 
 -- ---- one step
 module _ (c : Limits) (s : State) (met : rules s ≡ true) (same : s .limits ≡ c) where

@@ -11,4 +11,5 @@ pub mod Group
 pub mod QuestionsRenamed
 pub mod Places
 pub mod RenameTheorems
+pub mod FreshRenamed
 pub mod CodeLaws

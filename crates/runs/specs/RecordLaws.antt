@@ -1,50 +1,81 @@
 -- What a record answers, by its length and its mark, and what it keeps of the state before it. Assumes nothing.
-use Prim.Native.Nat.{ℕ, zero, suc, _<_}
+use Prim.Native.Nat.{ℕ, zero, suc, _≤_, _<_}
 use mathlib.Core.Path.{_≡_, refl, sym, ap, _∙_, subst}
 use mathlib.Core.Bool.{true, false, not}
 use mathlib.Core.List.{List}
 use native.Mathlib.Omega.{arith}
 use lib.ListN.{length}
-use borrow.Author.Tests.{lt-ltb, le-ltb}
-use Rattle.logic.specs.Refuse.{refuse-yes, refuse-no}
+use borrow.Author.Tests.{lt-ltb, le-ltb, ltb-false, not-false}
+use Rattle.logic.specs.Refuse.{refuse-yes, refuse-no, refuse-none, refuse-zero}
 use Rattle.parts.specs.Refusal.{accepted, wrongMark, tooShort}
 use Rattle.parts.specs.Mark.{marked}
 use Rattle.cluster.specs.declared.State.{State}
 use Rattle.cluster.specs.declared.Outcome.{Outcome}
-use Rattle.cluster.specs.Fresh.{answer}
 use Rattle.cluster.specs.State.{tidy}
 use Rattle.cluster.specs.Rules.{rules}
+use Rattle.cluster.specs.Fresh.{answer}
 use Rattle.cluster.specs.Act.{act}
 use Rattle.actions.specs.Kept.{Kept, step-kept, step-is-act}
 use Rattle.runs.specs.Run.{recordWidth, recordRefusal, recordAnswer, actionMark, actionIn, actOn}
 
-module _ (mark : ℕ) (bytes : List ℕ) (before : State) (said : Outcome) where
-  -- fewer than six bytes
-  pub record-short : length bytes < recordWidth → answer tooShort before ≡ recordAnswer (recordRefusal mark bytes) before said
-  unfolding recordRefusal recordAnswer
-  record-short h = ap (λ (k : ℕ). recordAnswer k before said) (refuse-yes _ _ _ (lt-ltb (length bytes) recordWidth h))
+-- ---- the number of a record's length and its mark
+module _ (mark : ℕ) (bytes : List ℕ) where
+  pub record-short : length bytes < recordWidth → recordRefusal mark bytes ≡ tooShort
+  unfolding recordRefusal
+  record-short h = sym (refuse-yes _ _ _ (lt-ltb (length bytes) recordWidth h))
 
-  module _ (six : length bytes ≡ recordWidth) where
-    -- six bytes with another mark
-    pub record-unmarked : marked mark bytes ≡ false → answer wrongMark before ≡ recordAnswer (recordRefusal mark bytes) before said
-    unfolding recordRefusal recordAnswer
-    record-unmarked h =
-        ap (λ (k : ℕ). recordAnswer k before said)
-        (refuse-yes _ wrongMark accepted (ap not h) ∙ refuse-no _ _ _ (le-ltb (length bytes) recordWidth (omega arith)))
+  pub record-unmarked : recordWidth ≤ length bytes → marked mark bytes ≡ false → recordRefusal mark bytes ≡ wrongMark
+  unfolding recordRefusal
+  record-unmarked h m =
+      sym (refuse-yes _ wrongMark accepted (ap not m) ∙ refuse-no _ _ _ (le-ltb (length bytes) recordWidth h))
 
-    -- six bytes with the mark
-    pub record-whole : marked mark bytes ≡ true → said ≡ recordAnswer (recordRefusal mark bytes) before said
-    unfolding recordRefusal recordAnswer
-    record-whole h =
-        ap (λ (k : ℕ). recordAnswer k before said)
-        (refuse-no _ wrongMark accepted (ap not h) ∙ refuse-no _ _ _ (le-ltb (length bytes) recordWidth (omega arith)))
+  -- it is 0 where the record has six bytes and the mark, and nowhere else
+  pub record-whole : recordWidth ≤ length bytes → marked mark bytes ≡ true → recordRefusal mark bytes ≡ accepted
+  unfolding recordRefusal
+  record-whole h m = refuse-none _ _ _ (le-ltb (length bytes) recordWidth h) (refuse-none _ _ _ (ap not m) refl)
 
--- an action record of fewer than six bytes
-pub short-refused : (s : State) (bytes : List ℕ) → length bytes < recordWidth → actOn s bytes .refusal ≡ tooShort
+  pub whole-record : recordRefusal mark bytes ≡ accepted → (recordWidth ≤ length bytes) × (marked mark bytes ≡ true)
+  unfolding recordRefusal
+  whole-record h =
+      let p = refuse-zero _ _ _ h in
+      (ltb-false (length bytes) recordWidth (p .0), not-false _ (refuse-zero _ _ _ (p .1) .0))
+
+-- ---- the answer of a record
+module _ (n : ℕ) (before : State) (said : Outcome) where
+  -- at 0 it is what the record says
+  pub record-said : n ≡ accepted → recordAnswer n before said ≡ said
+  unfolding recordAnswer
+  record-said h = rw h
+
+-- at any other number it is that and the state before; so it is 0 only there
+pub record-refused : (n : ℕ) (before : State) (said : Outcome) → (n ≡ accepted → ⊥) → recordAnswer n before said ≡ answer n before
+unfolding recordAnswer
+record-refused zero before said h = absurd (h refl)
+record-refused (suc n) before said h = refl
+
+pub record-accepted : (n : ℕ) (before : State) (said : Outcome) → recordAnswer n before said .refusal ≡ accepted → n ≡ accepted
+unfolding recordAnswer
+record-accepted zero before said h = refl
+record-accepted (suc n) before said h = h
+
+-- ---- an action
+-- a whole record with the action mark answers as its action does
+pub whole-acts : (s : State) (bytes : List ℕ) → recordRefusal actionMark bytes ≡ accepted → actOn s bytes ≡ act s (actionIn bytes)
 unfolding actOn
-short-refused s bytes h = ap (λ (o : Outcome). o .refusal) (sym (record-short actionMark bytes s (act s (actionIn bytes)) h))
+whole-acts s bytes = record-said (recordRefusal actionMark bytes) s (act s (actionIn bytes))
 
--- the state that any record hands back, of a state that meets the rules and is tidy
+-- and so does an accepted one
+pub accepted-acts : (s : State) (bytes : List ℕ) → actOn s bytes .refusal ≡ accepted → actOn s bytes ≡ act s (actionIn bytes)
+unfolding actOn
+accepted-acts s bytes h = whole-acts s bytes (record-accepted (recordRefusal actionMark bytes) s (act s (actionIn bytes)) h)
+
+-- any other answers by its length and its mark
+pub unread : (s : State) (bytes : List ℕ) (n : ℕ) → recordRefusal actionMark bytes ≡ suc n → actOn s bytes ≡ answer (suc n) s
+unfolding actOn
+unread s bytes n h =
+    ap (λ (k : ℕ). recordAnswer k s (act s (actionIn bytes))) h ∙ record-refused (suc n) s (act s (actionIn bytes)) (λ e. omega arith)
+
+-- the state that a record hands back, of a state that meets the rules and is tidy
 pub act-on-kept : (s : State) (bytes : List ℕ) → rules s ≡ true → tidy s ≡ s → Kept s (actOn s bytes .state)
 unfolding actOn recordAnswer
 act-on-kept s bytes h t = go (recordRefusal actionMark bytes)

@@ -1,1 +1,6 @@
 pub mod RenameRun
+pub mod TraceRenamed
+pub mod RunRenamed
+pub mod RunBehaviour
+pub mod VerdictLaws
+pub mod Examples

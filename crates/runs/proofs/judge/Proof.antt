@@ -1,18 +1,20 @@
-use mathlib.Core.Path.{_≡_, refl, sym, ap, ap₂, _∙_}
-use Prim.Native.Nat.{ℕ, _<_}
-use mathlib.Core.Bool.{true}
+use mathlib.Core.Path.{_≡_, sym, ap, _∙_}
+use Prim.Native.Nat.{ℕ}
+use mathlib.Core.List.{List}
 use native.Mathlib.Omega.{arith}
-use lib.ListN.{length, take, length-take}
 use borrow.Author.Needs.{needs}
-use Rattle.parts.specs.Refusal.{accepted, tooShort, runTooLong}
-use Rattle.cluster.specs.declared.State.{State}
+use Rattle.parts.specs.Refusal.{accepted}
 use Rattle.cluster.specs.declared.Outcome.{Outcome}
 use Rattle.cluster.specs.State.{zeroState}
-use Rattle.cluster.specs.Fresh.{answer}
-use Rattle.runs.specs.Run.{recordWidth, configure, opening, recordsOf, traceFrom, verdictFrom}
-use Rattle.runs.specs.Opening.{configure-short, configure-zeros, configure-rules, configure-tidy, opening-long, opening-is, judge-unopened, judge-opened}
+use Rattle.runs.specs.Run.{recordWidth, opening, recordsOf, traceFrom, verdictOf, verdictFrom, judge}
+use Rattle.runs.specs.Opening.{opening-too-long, opening-too-short, opening-configures, opening-rules, opening-tidy, opened, unopened}
 use Rattle.runs.proofs.judge.Statement.{statement}
 use Rattle.runs.proofs.judge.Tie as tie
+
+-- a run that is refused by this number before its first action
+refused : (run : List ℕ) (o : Outcome) → opening run ≡ o → (o .refusal ≡ accepted → ⊥) → verdictOf 0 (o .refusal) 0 0 0 0 zeroState ≡ judge run
+refused run o e h =
+    ap (λ (x : Outcome). verdictOf 0 (x .refusal) 0 0 0 0 zeroState) (sym e) ∙ sym (unopened run (λ q. h (ap (λ (x : Outcome). x .refusal) (sym e) ∙ q)))
 
 unopened-requires : tie.Need-unopened-requires
 unopened-requires c κs = search needs
@@ -20,7 +22,7 @@ unopened-requires c κs = search needs
 returns : tie.Need-returns
 returns c =
     let run = c .before .before .before .args .run .now in
-    c .unopened .ensures ∙ judge-unopened run runTooLong (opening-long run (c .before .if1 .taken)) (λ e. omega arith)
+    c .unopened .ensures ∙ refused run _ (opening-too-long run (c .before .if1 .taken)) (λ e. omega arith)
 
 unopened-requires-2 : tie.Need-unopened-requires-2
 unopened-requires-2 c κs = search needs
@@ -28,8 +30,7 @@ unopened-requires-2 c κs = search needs
 returns-2 : tie.Need-returns-2
 returns-2 c =
     let run = c .before .before .before .before .args .run .now in
-    c .unopened2 .ensures
-    ∙ judge-unopened run tooShort (opening-is run (omega arith) ∙ sym (configure-short (take recordWidth run) (rw length-take (omega arith)))) (λ e. omega arith)
+    c .unopened2 .ensures ∙ refused run _ (opening-too-short run (c .before .if2 .taken)) (λ e. omega arith)
 
 sub-configure : tie.Need-sub-configure
 sub-configure c = search needs
@@ -44,8 +45,8 @@ configure-requires : tie.Need-configure-requires
 configure-requires c κs = search needs
 
 -- the configuration is judged on its own part of the run
-opened : (z : tie.After-configure) → opening (z .before .before .before .before .before .args .run .now) ≡ z .configure .result
-opened z = opening-is (z .before .before .before .before .before .args .run .now) (omega arith) ∙ sym (z .configure .ensures)
+configured : (z : tie.After-configure) → opening (z .before .before .before .before .before .args .run .now) ≡ z .configure .result
+configured z = opening-configures (z .before .before .before .before .before .args .run .now) (omega arith) ∙ sym (z .configure .ensures)
 
 unopened-requires-3 : tie.Need-unopened-requires-3
 unopened-requires-3 c κs = search needs
@@ -54,25 +55,23 @@ returns-3 : tie.Need-returns-3
 returns-3 c =
     let z = c .before .before .before in
     let run = z .before .before .before .before .before .args .run .now in
-    let o = z .configure .result in
-    let zeros : o .state ≡ zeroState = rw (z .configure .ensures) (configure-zeros (take recordWidth run) (λ e. c .before .if3 .taken (ap (λ (x : Outcome). x .refusal) (z .configure .ensures) ∙ e))) in
-    c .unopened3 .ensures ∙ judge-unopened run (o .refusal) (opened z ∙ ap (answer (o .refusal)) zeros) (c .before .if3 .taken)
+    c .unopened3 .ensures ∙ refused run (z .configure .result) (configured z) (c .before .if3 .taken)
 
 judge-actions-requires : tie.Need-judge-actions-requires
 judge-actions-requires c κs =
     let z = c .before .before in
     let run = z .before .before .before .before .before .args .run .now in
-    let e = z .configure .ensures in
-    let ok : configure (take recordWidth run) .refusal ≡ accepted = ap (λ (x : Outcome). x .refusal) (sym e) ∙ c .if3 .left in
-    (omega arith, (omega arith, (rw e (configure-rules (take recordWidth run) ok), rw e (configure-tidy (take recordWidth run) ok))))
+    let e = configured z in
+    let ok : opening run .refusal ≡ accepted = ap (λ (o : Outcome). o .refusal) e ∙ c .if3 .left in
+    (omega arith, (omega arith, (rw (← e) (opening-rules run ok), rw (← e) (opening-tidy run ok))))
 
 returns-4 : tie.Need-returns-4
 returns-4 c =
     let z = c .before .before .before in
     let run = z .before .before .before .before .before .args .run .now in
     c .judge-actions .ensures
-    ∙ ap (λ (o : Outcome). verdictFrom (o .state) (traceFrom (o .state) recordWidth (recordsOf run))) (sym (opened z))
-    ∙ judge-opened run (ap (λ (o : Outcome). o .refusal) (opened z) ∙ c .before .if3 .left)
+    ∙ ap (λ (o : Outcome). verdictFrom (o .state) (traceFrom (o .state) recordWidth (recordsOf run))) (sym (configured z))
+    ∙ sym (opened run (ap (λ (o : Outcome). o .refusal) (configured z) ∙ c .before .if3 .left))
 
 pub judge-spec : {M : Type 1} → statement M
 judge-spec =

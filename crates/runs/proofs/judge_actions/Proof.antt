@@ -13,8 +13,8 @@ use Rattle.cluster.specs.State.{tidy}
 use Rattle.cluster.specs.Rules.{rules}
 use Rattle.actions.specs.Kept.{Kept}
 use Rattle.runs.specs.declared.Verdict.{Verdict}
-use Rattle.runs.specs.Run.{recordWidth, recordsOf, traceFrom, verdictFrom, actOn}
-use Rattle.runs.specs.RecordLaws.{short-refused, act-on-kept}
+use Rattle.runs.specs.Run.{recordWidth, actionMark, recordsOf, traceFrom, verdictFrom, actOn}
+use Rattle.runs.specs.RecordLaws.{record-short, unread, act-on-kept}
 use Rattle.runs.specs.Judging.{refusedBy, after, fromHere, recordHere, here-begun, here-end, here-refused, here-on}
 use Rattle.runs.proofs.judge_actions.Statement.{statement}
 use Rattle.runs.proofs.judge_actions.Tie as tie
@@ -60,7 +60,7 @@ returns c =
     let v = z .loop .v in
     let run = z .before .before .before .args .run .now in
     let e : actOn (v .state) (recordHere v run) .refusal ≡ tooShort =
-    short-refused (v .state) (recordHere v run) (rw (length-take, length-drop) (omega arith)) in
+    ap (λ (o : Outcome). o .refusal) (unread (v .state) (recordHere v run) 20 (record-short actionMark (recordHere v run) (rw (length-take, length-drop) (omega arith)))) in
     c .refused-by .ensures
     ∙ ap (refusedBy v) (sym e)
     ∙ here-refused v run (c .before .before .if1 .taken) (λ q. let w : tooShort ≡ accepted = sym e ∙ q in omega arith)

@@ -1,0 +1,176 @@
+-- The verdict of a run: where it stops, and the bounds of its numbers.
+-- Assumes nothing.
+use Prim.Native.Nat.{ℕ, _+_, _*_, _-_, _≤_, _<_, min}
+use mathlib.Core.Path.{_≡_, sym, ap, _∙_}
+use mathlib.Core.Bool.{Bool, true, false, not, cond}
+use mathlib.Core.List.{List, [], _∷_, map}
+use mathlib.Core.Logic.{_↔_}
+use native.Mathlib.Omega.{arith}
+use native.Mathlib.Nat.{lt-of-not-le}
+use native.Mathlib.Decide.{ℕ-discrete}
+use lib.Dec.{ltb}
+use lib.ListN.{length, take, drop, length-take, length-drop, length-map}
+use lib.Seq.{drop-drop}
+use Rattle.logic.specs.Tests.{firstFailing, failing-within}
+use Rattle.logic.specs.Refuse.{refuse}
+use Rattle.logic.specs.Greatest.{greatestOf}
+use Rattle.logic.specs.Pieces.{pieces-few, piece-at, front-pieces}
+use Rattle.parts.specs.Refusal.{accepted, wrongMark, tooShort, badConfiguration, runTooLong}
+use Rattle.parts.specs.Mark.{marked}
+use Rattle.cluster.specs.declared.Limits.{Limits}
+use Rattle.cluster.specs.declared.State.{State}
+use Rattle.cluster.specs.declared.Action.{Action}
+use Rattle.cluster.specs.declared.Outcome.{Outcome}
+use Rattle.cluster.specs.State.{zeroState}
+use Rattle.cluster.specs.Rules.{inRange, rules}
+use Rattle.cluster.specs.Predicates.{rules-iff}
+use Rattle.cluster.specs.Fresh.{freshState, answer, fresh}
+use Rattle.cluster.specs.Act.{act}
+use Rattle.actions.specs.Answers.{act-number, refusal-small}
+use Rattle.actions.specs.Kept.{act-kept}
+use Rattle.questions.specs.Exposed.{exposed, exposed-by}
+use Rattle.published.specs.Behaviours.{AllAccepted, statesAfter}
+use Rattle.runs.specs.declared.Verdict.{Verdict}
+use Rattle.runs.specs.Run.{recordWidth, longestRun, configurationMark, actionMark, recordRefusal, recordAnswer, configure, actionIn, actOn, opening, recordsOf, weakHolds, strongHolds, judge}
+use Rattle.runs.specs.Opening.{front, limitsIn, firstState, traceOf, opening-short, opening-six, opening-rules, opened, unopened}
+use Rattle.verdicts.specs.RunBehaviour.{acceptedActions, nextRecord, accepted-few, actions-accepted, states-are, at-behind, all-accepted, next-refused}
+
+-- ---- where a run stops
+-- refused: at the record behind the accepted ones, which is inside and is judged on its own part of the input
+pub record StopsAt (run : List ℕ) : Type 0 where
+  pub more : judge run .accepted < length (recordsOf run)
+  pub at : judge run .at ≡ recordWidth + recordWidth * judge run .accepted
+  pub within : judge run .at < length run
+  pub bytes : nextRecord run ≡ take recordWidth (drop (judge run .at) run)
+  pub answer : actOn (judge run .state) (nextRecord run) .refusal ≡ judge run .refusal
+
+module _ (run : List ℕ) (ok : opening run .refusal ≡ accepted) where
+  -- behind as many records as are accepted, but not behind the last byte
+  at-is : judge run .at ≡ recordWidth + min (recordWidth * judge run .accepted) (length run - recordWidth)
+  at-is =
+      let n : ℕ = judge run .accepted in
+      at-behind run ok
+      ∙ ap (λ (k : ℕ). recordWidth + k)
+      (ap length (front-pieces 5 n (drop recordWidth run))
+      ∙ length-take (recordWidth * n) (drop recordWidth run)
+      ∙ ap (min (recordWidth * n)) (length-drop recordWidth run))
+
+  pub at-within : judge run .at ≤ length run
+  at-within = omega (arith, at-is, opening-six run ok)
+
+  -- there are at most k records exactly where k records hold the bytes behind the configuration
+  records-few : (k : ℕ) → length (recordsOf run) ≤ k ↔ length run - recordWidth ≤ recordWidth * k
+  records-few k = rw (length-drop recordWidth run) at (pieces-few 5 k (drop recordWidth run))
+
+  pub refused-record : (judge run .refusal ≡ accepted → ⊥) → StopsAt run
+  refused-record h =
+      let n : ℕ = judge run .accepted in
+      let next = next-refused run ok h in
+      let left : recordWidth * n < length run - recordWidth = lt-of-not-le (λ l. omega (arith, next .0, records-few n .1 l)) in
+      let at : judge run .at ≡ recordWidth + recordWidth * n = omega (arith, at-is, left) in
+      record {
+        more = next .0;
+        at = at;
+        within = omega (arith, at, left);
+        bytes = piece-at 5 n (drop recordWidth run)
+            ∙ ap (take recordWidth) (drop-drop (recordWidth * n) recordWidth run ∙ ap (λ (k : ℕ). drop k run) (sym at));
+        answer = next .1;
+      }
+
+  -- not refused exactly where every record is accepted, and then at the end of its bytes
+  pub accepted-whole : judge run .refusal ≡ accepted ↔ (judge run .accepted ≡ length (recordsOf run)) × (judge run .at ≡ length run)
+  accepted-whole = (
+    (λ h.
+        let all = all-accepted run ok h in
+        (all, omega (arith, at-is, records-few (judge run .accepted) .0 (omega (arith, all)), opening-six run ok))),
+    (λ h. elim (ℕ-discrete (judge run .refusal) accepted) [
+      | yes e ↦ e
+      | no e ↦ absurd (omega (arith, next-refused run ok e .0, h .0))
+    ]),
+  )
+
+-- ---- the numbers of a verdict
+-- 65,532 bytes hold a configuration and so many actions
+abbrev pub mostActions : ℕ
+mostActions = 10921
+
+-- the bounds
+pub record Small (v : Verdict) : Type 0 where
+  pub accepted : v .accepted ≤ mostActions
+  pub refusal : v .refusal ≤ runTooLong
+  pub at : v .at ≤ longestRun
+  pub weak : v .weak ≤ v .accepted
+  pub strong : v .strong ≤ v .accepted
+  pub exposed : v .exposed ≤ 16
+
+-- 25 is the greatest refusal
+record-small : (mark : ℕ) (bytes : List ℕ) (before : State) (said : Outcome) → said .refusal ≤ runTooLong
+    → recordAnswer (recordRefusal mark bytes) before said .refusal ≤ runTooLong
+unfolding recordRefusal recordAnswer refuse
+record-small mark bytes before said h = go (ltb (length bytes) recordWidth) (not (marked mark bytes))
+  where
+    go : (a b : Bool) → recordAnswer (refuse a tooShort (refuse b wrongMark accepted)) before said .refusal ≤ runTooLong
+    go true b = omega arith
+    go false true = omega arith
+    go false false = h
+
+fresh-small : (c : Limits) → fresh c .refusal ≤ runTooLong
+unfolding fresh
+fresh-small c = go (inRange c)
+  where
+    go : (b : Bool) → cond b (answer accepted (freshState c)) (answer badConfiguration zeroState) .refusal ≤ runTooLong
+    go true = omega arith
+    go false = omega arith
+
+opening-small : (run : List ℕ) → opening run .refusal ≤ runTooLong
+unfolding opening configure
+opening-small run = go (ltb longestRun (length run))
+  where
+    go : (b : Bool) → cond b (answer runTooLong zeroState) (configure (take recordWidth run)) .refusal ≤ runTooLong
+    go true = omega arith
+    go false = record-small configurationMark (take recordWidth run) zeroState (fresh (limitsIn run)) (fresh-small (limitsIn run))
+
+act-on-small : (s : State) (bytes : List ℕ) → actOn s bytes .refusal ≤ runTooLong
+unfolding actOn
+act-on-small s bytes =
+    record-small actionMark bytes s (act s (actionIn bytes)) (omega (arith, act-number s (actionIn bytes), refusal-small s (actionIn bytes)))
+
+-- the hw of a replica is at most the end of its log, and that at most L
+exposed-small : (s : State) → rules s ≡ true → exposed s ≤ 16
+exposed-small s h =
+    let met = rules-iff s .0 h in
+    exposed-by s 16 (λ r l p. omega (arith, met .s5 r l .hw, met .s2 .ends r l, met .s1 .ranges .log))
+
+-- so it is of all states that accepted actions hand back
+all-exposed-small : (s : State) → rules s ≡ true → (actions : List Action) → AllAccepted s actions → greatestOf (map exposed (s ∷ statesAfter s actions)) ≤ 16
+unfolding greatestOf statesAfter
+all-exposed-small s met [] h = omega (arith, exposed-small s met)
+all-exposed-small s met (x ∷ xs) h =
+    omega (arith, exposed-small s met, all-exposed-small (act s x .state) (act-kept s x (h .0) .rules) xs (h .1))
+
+-- the first state that fails a test has at most the number of the last
+first-within : (test : State → Bool) (states : List State) → firstFailing 1 (map test states) ≤ length states
+first-within test states = omega (arith, failing-within 0 (map test states), length-map states test)
+
+opened-small : (run : List ℕ) → opening run .refusal ≡ accepted → Small (judge run)
+opened-small run ok =
+    record {
+      accepted = omega (arith, accepted-few run ok, records-few run ok mostActions .1 (omega (arith, opening-short run ok)));
+      refusal = elim (ℕ-discrete (judge run .refusal) accepted) [
+        | yes e ↦ omega (arith, e)
+        | no e ↦ rw (← refused-record run ok e .answer) (act-on-small (judge run .state) (nextRecord run))
+      ];
+      at = omega (arith, at-within run ok, opening-short run ok);
+      weak = rw (opened run ok) (first-within weakHolds (traceOf run .states));
+      strong = rw (opened run ok) (first-within strongHolds (traceOf run .states));
+      exposed = rw (opened run ok, states-are run ok)
+          (all-exposed-small (firstState run) (opening-rules run ok) (acceptedActions run) (actions-accepted run ok));
+    }
+
+-- of every run
+pub verdict-small : (run : List ℕ) → Small (judge run)
+verdict-small run =
+    elim (ℕ-discrete (opening run .refusal) accepted) [
+      | yes ok ↦ opened-small run ok
+      | no h ↦ rw (unopened run h) (omega (arith, opening-small run))
+    ]
