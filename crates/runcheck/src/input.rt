@@ -11,10 +11,10 @@ pub(crate) struct Read {
 }
 
 // Room for one byte more than the longest run, so that the judge itself sees that a run is too long.
-pub(crate) fn room() -> [u8; 65533]
+pub(crate) fn room() -> [u8; runs::LONGEST_RUN + 1]
     ensures { λ r. ⌜ 65533 ≡ length r ⌝ }
 {
-    [0; 65533]
+    [0; runs::LONGEST_RUN + 1]
 }
 
 // One read whose bytes are not kept.

@@ -1,7 +1,5 @@
 // The verdict as seven lines of text.
-ghost use mathlib.Core.Path.{_≡_};
-ghost use Prim.Native.Nat.{_≤_, _<_};
-ghost use lib.ListN.{length};
+ghost use Prim.Native.Nat.{_<_};
 use cluster::State;
 use libc::STDOUT_FILENO;
 use parts::refusal::ACCEPTED;

@@ -16,7 +16,7 @@ use Rattle.parts.specs.Refusal.{accepted}
 use Rattle.cluster.specs.declared.State.{State}
 use Rattle.questions.specs.Exposed.{exposed}
 use Rattle.runs.specs.declared.Verdict.{Verdict}
-use Rattle.runs.specs.Run.{recordWidth, actOn, recordsOf, Trace, stopped, andOn, traceBy, traceFrom, verdictOf, lastOf, weakHolds, strongHolds, verdictFrom}
+use Rattle.runs.specs.Run.{recordWidth, actOn, recordsOf, Trace, stopped, acceptedThen, traceBy, traceFrom, verdictOf, lastOf, weakHolds, strongHolds, verdictFrom}
 
 -- ---- the verdict so far
 -- before the first action: the fresh state s
@@ -95,7 +95,7 @@ known-on : (before count : ℕ) (holds : Bool) (rest : List Bool)
     → known before (firstFailing (count + 1) (holds ∷ rest)) ≡ known (failedAt before holds (count + 1)) (firstFailing (count + 1 + 1) rest)
 known-on before count holds rest = simp add-one (known-suc before count holds rest)
 
-resumed-on : (v : Verdict) (s : State) (rest : Trace) → resumed v (andOn s rest) ≡ resumed (after v s) rest
+resumed-on : (v : Verdict) (s : State) (rest : Trace) → resumed v (acceptedThen s rest) ≡ resumed (after v s) rest
 unfolding greatestOf lastOf
 resumed-on v s rest =
     verdict-cong _ _ _ (omega arith) (known-on (v .weak) (v .accepted) (weakHolds s) (map weakHolds (rest .states)))
@@ -139,7 +139,7 @@ here-refused v run h refused =
     ∙ ap (resumed v) (sym (trace-more (v .state) (v .at) (drop (v .at) run) (rw length-drop (omega arith)) ∙ trace-refused _ _ _ _ refused))
 
 -- a record that is accepted, of six bytes
-trace-accepted : (n at : ℕ) (s : State) (rest : Trace) → n ≡ accepted → traceBy n at s rest ≡ andOn s rest
+trace-accepted : (n at : ℕ) (s : State) (rest : Trace) → n ≡ accepted → traceBy n at s rest ≡ acceptedThen s rest
 unfolding traceBy
 trace-accepted n at s rest h = rw h
 

@@ -82,12 +82,12 @@ abbrev pub stopped : ℕ → ℕ → Trace
 stopped number at = record { states = []; refusal = number; at = at }
 
 -- an accepted action that hands back s, and then the rest
-abbrev pub andOn : State → Trace → Trace
-andOn s rest = record { states = s ∷ rest .states; refusal = rest .refusal; at = rest .at }
+abbrev pub acceptedThen : State → Trace → Trace
+acceptedThen s rest = record { states = s ∷ rest .states; refusal = rest .refusal; at = rest .at }
 
 -- by the number of a record at byte `at`: the state that it hands back and then the rest, or the end
 unfoldable pub traceBy : ℕ → ℕ → State → Trace → Trace
-traceBy zero at next rest = andOn next rest
+traceBy zero at next rest = acceptedThen next rest
 traceBy (suc n) at next rest = stopped (suc n) at
 
 -- from the state s on, with the next record at byte `at`

@@ -26,7 +26,7 @@ use Rattle.cluster.specs.Act.{actionOf, act}
 use Rattle.actions.specs.Kept.{Kept}
 use Rattle.questions.specs.declared.Property.the-variants.{WeakIsr, StrongIsr}
 use Rattle.questions.specs.Exposed.{exposed}
-use Rattle.runs.specs.Run.{recordWidth, configurationMark, actionMark, recordRefusal, recordAnswer, actionIn, actOn, Trace, andOn, traceBy, traceFrom, lastOf, weakHolds, strongHolds, verdictFrom}
+use Rattle.runs.specs.Run.{recordWidth, configurationMark, actionMark, recordRefusal, recordAnswer, actionIn, actOn, Trace, acceptedThen, traceBy, traceFrom, lastOf, weakHolds, strongHolds, verdictFrom}
 use Rattle.runs.specs.RecordLaws.{whole-record, act-on-kept}
 use Rattle.renamings.specs.Names.{newName, isRenaming}
 use Rattle.renamings.specs.Rename.{renameAction, renamed, Renames}
@@ -107,7 +107,7 @@ renameTrace p trace = record { states = map (renamed p) (trace .states); refusal
 by-renamed : (p : List ℕ) (number at : ℕ) (next : State) (rest other : Trace) → other ≡ renameTrace p rest
     → traceBy number at (renamed p next) other ≡ renameTrace p (traceBy number at next rest)
 unfolding traceBy
-by-renamed p zero at next rest other h = ap (andOn (renamed p next)) h
+by-renamed p zero at next rest other h = ap (acceptedThen (renamed p next)) h
 by-renamed p (suc k) at next rest other h = refl
 
 -- and what holds of each state

@@ -126,9 +126,9 @@ opening-small : (run : List ℕ) → opening run .refusal ≤ runTooLong
 unfolding opening configure
 opening-small run = go (ltb longestRun (length run))
   where
-    go : (b : Bool) → cond b (answer runTooLong zeroState) (configure (take recordWidth run)) .refusal ≤ runTooLong
+    go : (b : Bool) → cond b (answer runTooLong zeroState) (configure (front run)) .refusal ≤ runTooLong
     go true = omega arith
-    go false = record-small configurationMark (take recordWidth run) zeroState (fresh (limitsIn run)) (fresh-small (limitsIn run))
+    go false = record-small configurationMark (front run) zeroState (fresh (limitsIn run)) (fresh-small (limitsIn run))
 
 act-on-small : (s : State) (bytes : List ℕ) → actOn s bytes .refusal ≤ runTooLong
 unfolding actOn

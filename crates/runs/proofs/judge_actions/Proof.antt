@@ -1,4 +1,4 @@
-use Prim.Native.Nat.{ℕ, _+_, _≤_, _<_, _-_}
+use Prim.Native.Nat.{ℕ, _+_, _≤_, _-_}
 use mathlib.Core.Path.{_≡_, refl, sym, ap, _∙_}
 use mathlib.Core.Bool.{true}
 use native.Mathlib.Omega.{arith}
@@ -7,7 +7,6 @@ use lib.ListN.{length, take, drop, length-take, length-drop}
 use lib.Seq.{length-take-le}
 use borrow.Author.Needs.{needs}
 use Rattle.parts.specs.Refusal.{accepted, tooShort}
-use Rattle.cluster.specs.declared.State.{State}
 use Rattle.cluster.specs.declared.Outcome.{Outcome}
 use Rattle.cluster.specs.State.{tidy}
 use Rattle.cluster.specs.Rules.{rules}
@@ -81,12 +80,13 @@ part-act-on-end c = omega arith
 act-on-requires : tie.Need-act-on-requires Inv-loop μ-loop
 act-on-requires c κs =
     let v = c .before .before .before .before .before .loop .v in
-    let run = c .before .before .before .before .before .before .before .before .args .run .now in
-    (
+    let run = c .before .before .before .before .before .before .before .before .args .run .now in (
       search needs,
-      (search needs,
-      ap (λ (k : ℕ). length (take k (drop (v .at) run))) (add-sub-cancel-left (v .at) recordWidth)
-      ∙ length-take-le recordWidth (drop (v .at) run) (rw length-drop (omega arith))),
+      (
+        search needs,
+        ap (λ (k : ℕ). length (take k (drop (v .at) run))) (add-sub-cancel-left (v .at) recordWidth)
+            ∙ length-take-le recordWidth (drop (v .at) run) (rw length-drop (omega arith)),
+      ),
     )
 
 -- the record is judged on its own part of the run
@@ -136,16 +136,15 @@ loop-again c =
     let e = c .after .ensures in
     let at : c .after .result .at ≡ l .v .at + recordWidth = ap (λ (v : Verdict). v .at) e in
     let count : c .after .result .accepted ≡ l .v .accepted + 1 = ap (λ (v : Verdict). v .accepted) e in
-    let state : c .after .result .state ≡ z .act-on .result .state = ap (λ (v : Verdict). v .state) e in
-    (
+    let state : c .after .result .state ≡ z .act-on .result .state = ap (λ (v : Verdict). v .state) e in (
       omega arith,
       omega arith,
       ap (λ (v : Verdict). v .refusal) e,
       rw state (kept z .rules),
       rw state (kept z .tidy),
       l .inv .5
-      ∙ here-on (l .v) run (omega arith) (sym (ap (λ (o : Outcome). o .refusal) (judged z)) ∙ c .before .if3 .left)
-      ∙ ap (λ (v : Verdict). fromHere v run) (sym (e ∙ ap (λ (o : Outcome). after (l .v) (o .state)) (judged z))),
+          ∙ here-on (l .v) run (omega arith) (sym (ap (λ (o : Outcome). o .refusal) (judged z)) ∙ c .before .if3 .left)
+          ∙ ap (λ (v : Verdict). fromHere v run) (sym (e ∙ ap (λ (o : Outcome). after (l .v) (o .state)) (judged z))),
     )
 
 returns-3 : tie.Need-returns-3 Inv-loop μ-loop

@@ -1,4 +1,4 @@
-use Prim.Native.Nat.{ℕ, max}
+use Prim.Native.Nat.{max}
 use mathlib.Core.Path.{refl, ap, _∙_}
 use borrow.Author.Needs.{needs}
 use Rattle.runs.specs.Judging.{verdict-cong}
