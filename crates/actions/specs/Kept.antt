@@ -27,6 +27,13 @@ pub record Kept (s t : State) : Type 0 where
   pub tidy : tidy t ≡ t
   pub limits : t .limits ≡ s .limits
 
+-- the state itself keeps all of it, and so does what keeps it after that
+pub kept-same : (s : State) → rules s ≡ true → tidy s ≡ s → Kept s s
+kept-same s h t = record { rules = h; tidy = t; limits = refl }
+
+pub kept-after : (s t u : State) → Kept s t → Kept t u → Kept s u
+kept-after s t u k l = record { rules = l .rules; tidy = l .tidy; limits = l .limits ∙ k .limits }
+
 -- an accepted action on a state that meets the rules and is tidy
 pub effect-kept : (s : State) (action : Action) → rules s ≡ true → tidy s ≡ s → actionRefusal s action ≡ accepted → Kept s (effect s action)
 unfolding effect
@@ -57,7 +64,7 @@ step-kept s action h t = go (actionRefusal s action) refl
   where
     go : (n : ℕ) → actionRefusal s action ≡ n → Kept s (answerBy n s (effect s action) .state)
     go zero e = effect-kept s action h t e
-    go (suc n) e = record { rules = h; tidy = t; limits = refl }
+    go (suc n) e = kept-same s h t
 
 -- where the state meets the rules and is tidy, an action need look at neither
 pub step-is-act : (s : State) (action : Action) → rules s ≡ true → tidy s ≡ s → step s action ≡ act s action

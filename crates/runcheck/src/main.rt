@@ -10,5 +10,7 @@ fn main() {
         return;
     }
     let length = read.length;
-    print::verdict(runs::judge(&kept[..length]));
+    if !print::verdict(runs::judge(&kept[..length])) {
+        os::fail(b"runcheck: standard output");
+    }
 }

@@ -5,12 +5,12 @@ use libc::STDOUT_FILENO;
 use parts::refusal::ACCEPTED;
 use runs::Verdict;
 
-// One name, one space and one number.
-fn line(name: &[u8], number: usize) {
-    io::write_all(STDOUT_FILENO, name);
-    io::write_all(STDOUT_FILENO, b" ");
-    io::print_decimal(STDOUT_FILENO, number as u64);
-    io::write_all(STDOUT_FILENO, b"\n");
+// One name, one space and one number. Answers, as each function here does, whether all was written.
+fn line(name: &[u8], number: usize) -> bool {
+    io::write_all(STDOUT_FILENO, name)
+        && io::write_all(STDOUT_FILENO, b" ")
+        && io::print_decimal(STDOUT_FILENO, number as u64)
+        && io::write_all(STDOUT_FILENO, b"\n")
 }
 
 // A hexadecimal digit, in capitals. The caller shows that the number has one digit.
@@ -24,36 +24,39 @@ fn digit(n: u8) -> u8
 }
 
 // Bytes in hexadecimal.
-fn hex(bytes: &[u8]) {
+fn hex(bytes: &[u8]) -> bool {
     let mut i: usize = 0;
     while i < bytes.len() {
         let b = bytes[i];
         let pair = [digit(b / 16), digit(b % 16)];
-        io::write_all(STDOUT_FILENO, &pair);
+        if !io::write_all(STDOUT_FILENO, &pair) {
+            return false;
+        }
         i = i + 1;
     }
+    true
 }
 
-// The image of the state; `none` where there is none, which is the all-zero state.
-fn state(s: State) {
-    let mut image = [0u8; images::LONGEST];
-    io::write_all(STDOUT_FILENO, b"state ");
-    let written = images::write_image(s, &mut image);
+// The image of the state; `none` where there is none to write, as of the all-zero state.
+fn image(s: State) -> bool {
+    let mut space = [0u8; images::LONGEST];
+    let written = images::write_image(s, &mut space);
     let length = written.length;
     if written.refusal == ACCEPTED {
-        hex(&image[..length]);
-    } else {
-        io::write_all(STDOUT_FILENO, b"none");
+        return hex(&space[..length]);
     }
-    io::write_all(STDOUT_FILENO, b"\n");
+    io::write_all(STDOUT_FILENO, b"none")
 }
 
-pub(crate) fn verdict(v: Verdict) {
-    line(b"accepted", v.accepted);
-    line(b"refusal", v.refusal as usize);
-    line(b"at", v.at);
-    line(b"weak", v.weak);
-    line(b"strong", v.strong);
-    line(b"exposed", v.exposed as usize);
-    state(v.state);
+// The seven lines.
+pub(crate) fn verdict(v: Verdict) -> bool {
+    line(b"accepted", v.accepted)
+        && line(b"refusal", v.refusal as usize)
+        && line(b"at", v.at)
+        && line(b"weak", v.weak)
+        && line(b"strong", v.strong)
+        && line(b"exposed", v.exposed as usize)
+        && io::write_all(STDOUT_FILENO, b"state ")
+        && image(v.state)
+        && io::write_all(STDOUT_FILENO, b"\n")
 }

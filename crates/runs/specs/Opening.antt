@@ -8,7 +8,7 @@ use lib.Dec.{ltb}
 use lib.ListN.{length, take, length-take}
 use borrow.Author.Tests.{lt-ltb, le-ltb, ltb-false}
 use Rattle.logic.specs.Table.{cond-true, cond-false}
-use Rattle.parts.specs.Refusal.{accepted, tooShort, badConfiguration, runTooLong}
+use Rattle.parts.specs.Refusal.{accepted, tooShort, runTooLong}
 use Rattle.cluster.specs.declared.Limits.{Limits}
 use Rattle.cluster.specs.declared.State.{State}
 use Rattle.cluster.specs.declared.Outcome.{Outcome}
@@ -104,36 +104,11 @@ module _ (run : List ℕ) (ok : opening run .refusal ≡ accepted) where
   opened = ap (λ (n : ℕ). judgeBy n (firstState run) (recordsOf run)) ok
 
 -- ---- where it is not
--- all zeros go with a number that is not 0
-abbrev Blank : Outcome → Type 0
-Blank o = (o .refusal ≡ accepted → ⊥) → o .state ≡ zeroState
-
-fresh-blank : (c : Limits) → Blank (fresh c)
-unfolding fresh
-fresh-blank c = go (inRange c)
-  where
-    go : (b : Bool) → Blank (cond b (answer accepted (freshState c)) (answer badConfiguration zeroState))
-    go true h = absurd (h refl)
-    go false h = refl
-
-record-blank : (n : ℕ) (said : Outcome) → Blank said → Blank (recordAnswer n zeroState said)
-unfolding recordAnswer
-record-blank zero said f h = f h
-record-blank (suc n) said f h = refl
-
-pub opening-blank : (run : List ℕ) → (opening run .refusal ≡ accepted → ⊥) → opening run .state ≡ zeroState
-unfolding opening configure
-opening-blank run = go (ltb longestRun (length run))
-  where
-    go : (b : Bool) → Blank (cond b (answer runTooLong zeroState) (configure (front run)))
-    go true h = refl
-    go false h = record-blank _ (fresh (limitsIn run)) (fresh-blank (limitsIn run)) h
-
 -- the verdict: the refusal, and zeros
 pub unopened : (run : List ℕ) → (opening run .refusal ≡ accepted → ⊥) → judge run ≡ verdictOf 0 (opening run .refusal) 0 0 0 0 zeroState
 unfolding judge judgeBy
-unopened run h = go (opening run .refusal) h ∙ ap (verdictOf 0 (opening run .refusal) 0 0 0 0) (opening-blank run h)
+unopened run h = go (opening run .refusal) h
   where
-    go : (n : ℕ) → (n ≡ accepted → ⊥) → judgeBy n (opening run .state) (recordsOf run) ≡ verdictOf 0 n 0 0 0 0 (opening run .state)
+    go : (n : ℕ) → (n ≡ accepted → ⊥) → judgeBy n (opening run .state) (recordsOf run) ≡ verdictOf 0 n 0 0 0 0 zeroState
     go zero f = absurd (f refl)
     go (suc n) f = refl

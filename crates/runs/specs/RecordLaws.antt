@@ -15,7 +15,7 @@ use Rattle.cluster.specs.State.{tidy}
 use Rattle.cluster.specs.Rules.{rules}
 use Rattle.cluster.specs.Fresh.{answer}
 use Rattle.cluster.specs.Act.{act}
-use Rattle.actions.specs.Kept.{Kept, step-kept, step-is-act}
+use Rattle.actions.specs.Kept.{Kept, kept-same, step-kept, step-is-act}
 use Rattle.runs.specs.Run.{recordWidth, recordRefusal, recordAnswer, actionMark, actionIn, actOn}
 
 -- ---- the number of a record's length and its mark
@@ -82,4 +82,4 @@ act-on-kept s bytes h t = go (recordRefusal actionMark bytes)
   where
     go : (n : ℕ) → Kept s (recordAnswer n s (act s (actionIn bytes)) .state)
     go zero = subst (λ (o : Outcome). Kept s (o .state)) (step-is-act s (actionIn bytes) h t) (step-kept s (actionIn bytes) h t)
-    go (suc n) = record { rules = h; tidy = t; limits = refl }
+    go (suc n) = kept-same s h t

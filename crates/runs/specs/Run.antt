@@ -99,8 +99,8 @@ traceFrom s at (bytes ∷ records) =
 
 -- ---- the verdict
 abbrev pub verdictOf : ℕ → ℕ → ℕ → ℕ → ℕ → ℕ → State → Verdict
-verdictOf count number at weak strong shown s =
-    record { accepted = count; refusal = number; at = at; weak = weak; strong = strong; exposed = shown; state = s }
+verdictOf count number at weak strong greatest s =
+    record { accepted = count; refusal = number; at = at; weak = weak; strong = strong; exposed = greatest; state = s }
 
 -- the last state: of the first one and those after it
 unfoldable pub lastOf : State → List State → State
@@ -124,10 +124,10 @@ verdictFrom s trace =
     (greatestOf (map exposed (s ∷ trace .states)))
     (lastOf s (trace .states))
 
--- by what the length and the configuration answer: "0 for 25", and 0 where the configuration starts; all zeros where none was accepted
+-- by what the length and the configuration answer: refused, the number and zeros, at byte 0, where the configuration starts
 unfoldable pub judgeBy : ℕ → State → List (List ℕ) → Verdict
 judgeBy zero s records = verdictFrom s (traceFrom s recordWidth records)
-judgeBy (suc n) s records = verdictOf 0 (suc n) 0 0 0 0 s
+judgeBy (suc n) s records = verdictOf 0 (suc n) 0 0 0 0 zeroState
 
 -- the verdict of a run of bytes
 unfoldable pub judge : List ℕ → Verdict

@@ -13,8 +13,8 @@ use cluster::State;
 use parts::refusal::ACCEPTED;
 use questions::Property;
 
-// How many actions were accepted when a property first failed: what is known already, and asked of the state only where it has
-// not failed yet. The caller shows that the state meets the rules.
+// How many actions were accepted when a property first failed. Where that is known it stays, and the state is not asked. The
+// caller shows that the state meets the rules.
 fn failed_at(property: Property, known: usize, s: State, count: usize) -> usize
     requires { ⌜ rules s ≡ true ⌝ }
     ensures { λ r. ⌜ r ≡ failedAt known (askIsr property s .holds) count ⌝ }

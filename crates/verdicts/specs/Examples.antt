@@ -1,13 +1,13 @@
 -- The marked examples 1 to 9, each on the verdict of a run of bytes, computed from the definitions together. Assumes nothing.
 use Prim.Native.Nat.{ℕ}
 use mathlib.Core.Path.{_≡_, refl}
-use mathlib.Core.List.{List, [], _∷_}
+use mathlib.Core.List.{List, [], _∷_, flatten}
 use Rattle.logic.specs.Tests.{allBelow, every, firstFailing}
 use Rattle.logic.specs.Table.{table, tableFrom}
 use Rattle.logic.specs.Refuse.{refuse}
 use Rattle.logic.specs.Greatest.{greatestBelow, greatestOf}
 use Rattle.logic.specs.Search.{orElse, firstBelow, passing, firstThird, firstSecond, firstTriple}
-use Rattle.logic.specs.Pieces.{piecesUpTo, pieces, joined}
+use Rattle.logic.specs.Pieces.{piecesUpTo, pieces}
 use Rattle.parts.specs.declared.Leader.the-variants.{None}
 use Rattle.parts.specs.Mark.{markFirst, marked}
 use Rattle.parts.specs.Isr.{member, fullIsr, isrBelow, isrOf, without, noOther, isAlone}
@@ -65,7 +65,7 @@ replicate a b = action 8 a b 0
 -- ---- a run of such records
 -- the verdict of their bytes
 abbrev pub verdict : List (List ℕ) → Verdict
-verdict records = judge (joined records)
+verdict records = judge (flatten records)
 
 -- the numbers of the verdict: accepted, refusal, at, weak, strong, exposed
 abbrev pub numbers : List (List ℕ) → List ℕ
@@ -77,7 +77,7 @@ numbers records =
 abbrev pub paperRun : List (List ℕ)
 paperRun = configuration 3 4 4 3 ∷ elect 0 ∷ leader 0 ∷ follower 1 0 ∷ follower 2 0 ∷ write 0 ∷ replicate 1 0 ∷ advance 0 ∷ []
 
--- the state with its replicas 1 and 2 exchanged
+-- the state with the blocks of replicas 1 and 2 exchanged, and nothing else changed
 abbrev pub exchanged : State → State
 exchanged s =
     withReplicas s (replicaAt s 0 ∷ replicaAt s 2 ∷ replicaAt s 1 ∷ replicaAt s 3 ∷ replicaAt s 4 ∷ [])
@@ -86,7 +86,7 @@ exchanged s =
 pub record MarkedExamples : Type 0 where
   -- 1. "4B4303040403 4B4101000000 4B4102000000 4B4103010000 4B4103020000 4B4104000000 4B4108010000 4B4107000000": "the run above is
   -- refused 17 at 42"
-  pub one-bytes : joined paperRun
+  pub one-bytes : flatten paperRun
       ≡ 75 ∷ 67 ∷ 3 ∷ 4 ∷ 4 ∷ 3
       ∷ 75 ∷ 65 ∷ 1 ∷ 0 ∷ 0 ∷ 0
       ∷ 75 ∷ 65 ∷ 2 ∷ 0 ∷ 0 ∷ 0
@@ -136,7 +136,7 @@ unfolding judge judgeBy lastOf traceFrom traceBy opening actOn configure recordA
     controllerUpdateIsr withNextRecordId withReplica holdSameRecord sameRecord logsAgree recordAgrees recordsAgree logInUse
     recordInUse becomeFollowerAndTruncateTo truncateUnder truncateTo append withRequest withEnd withHw tidyReplica leaderInIsr
     leaderBelow sameLeader epochUsed lastEpoch higherEpoch sameEpoch isAlone noOther without isrOf isrBelow fullIsr member marked
-    joined pieces piecesUpTo firstTriple firstSecond firstThird passing firstBelow orElse greatestOf greatestBelow refuse table
+    flatten pieces piecesUpTo firstTriple firstSecond firstThird passing firstBelow orElse greatestOf greatestBelow refuse table
     tableFrom firstFailing every allBelow
 marked-examples =
     record {

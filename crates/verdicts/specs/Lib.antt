@@ -4,3 +4,4 @@ pub mod RunRenamed
 pub mod RunBehaviour
 pub mod VerdictLaws
 pub mod Examples
+pub mod RenameExample

@@ -3,9 +3,9 @@
 use Prim.Native.Nat.{ℕ, zero, suc, _≤_}
 use mathlib.Core.Path.{_≡_}
 use mathlib.Core.Bool.{true}
-use mathlib.Core.List.{List, map}
+use mathlib.Core.List.{List, map, flatten}
 use lib.ListN.{set}
-use Rattle.logic.specs.Pieces.{pieces, joined}
+use Rattle.logic.specs.Pieces.{pieces}
 use Rattle.parts.specs.Refusal.{accepted}
 use Rattle.cluster.specs.declared.Action.{Action}
 use Rattle.cluster.specs.State.{replicaCount}
@@ -31,7 +31,7 @@ renameRecord n to bytes = renameRecordBy (recordRefusal actionMark bytes) bytes 
 -- ---- a run
 -- by the number of its length and its configuration: each of its records is renamed where the configuration is accepted
 unfoldable pub renameRunBy : ℕ → ℕ → (ℕ → ℕ) → List ℕ → List ℕ
-renameRunBy zero n to run = joined (map (renameRecord n to) (pieces recordWidth run))
+renameRunBy zero n to run = flatten (map (renameRecord n to) (pieces recordWidth run))
 renameRunBy (suc k) n to run = run
 
 -- the R of the run's configuration

@@ -1,22 +1,18 @@
 -- What a run of an accepted configuration is: its accepted records, from the first on, are accepted actions from the fresh state,
--- so its states are a finite behaviour of the published model; it ends with its last record, or at a record that is refused,
--- whose action the model does not allow. Assumes nothing.
+-- so its states are a finite behaviour of the published model; it ends with its last record, or at a record that is refused;
+-- where that has six bytes and the mark, the model does not allow its action. Assumes nothing.
 use Prim.Native.Nat.{ℕ, zero, suc, _+_, _≤_, _<_}
 use mathlib.Core.Path.{_≡_, refl, sym, ap, _∙_}
-use mathlib.Core.Bool.{true}
-use mathlib.Core.List.{List, [], _∷_, map}
+use mathlib.Core.List.{List, [], _∷_, map, flatten}
 use native.Mathlib.Omega.{arith}
 use lib.ListN.{length, take, getD, length-map, length-append}
 use lib.Seq.{length-take-le}
-use Rattle.logic.specs.Pieces.{joined}
 use Rattle.parts.specs.Refusal.{accepted}
 use Rattle.cluster.specs.declared.State.{State}
 use Rattle.cluster.specs.declared.Action.{Action}
 use Rattle.cluster.specs.declared.Outcome.{Outcome}
-use Rattle.cluster.specs.State.{tidy}
-use Rattle.cluster.specs.Rules.{rules}
 use Rattle.cluster.specs.Act.{act}
-use Rattle.actions.specs.Kept.{Kept, act-kept}
+use Rattle.actions.specs.Kept.{Kept, kept-same}
 use Rattle.published.specs.KafkaReplication.{ModelState, FiniteBehaviour}
 use Rattle.published.specs.Meaning.{constantsOf, meaning}
 use Rattle.published.specs.Choices.{Choice}
@@ -25,6 +21,7 @@ use Rattle.published.specs.Behaviours.{AllAccepted, statesAfter, sequence-is-be
 use Rattle.runs.specs.declared.Verdict.{Verdict}
 use Rattle.runs.specs.Run.{recordWidth, actionMark, recordRefusal, actionIn, actOn, opening, recordsOf, Trace, traceBy, traceFrom, lastOf, judge}
 use Rattle.runs.specs.RecordLaws.{whole-acts, accepted-acts}
+use Rattle.runs.specs.TraceLaws.{trace-kept, last-each}
 use Rattle.runs.specs.Opening.{limitsIn, firstState, traceOf, opening-fresh, fresh-opened, opening-limits, opening-rules, opening-tidy, opened}
 
 -- ---- how far a list of records goes
@@ -37,7 +34,7 @@ record Traced (s : State) (from : ℕ) (records : List (List ℕ)) (t : Trace) :
   few : length (t .states) ≤ length records
   actions : AllAccepted s (actionsOf (length (t .states)) records)
   states : t .states ≡ statesAfter s (actionsOf (length (t .states)) records)
-  at : t .at ≡ from + length (joined (take (length (t .states)) records))
+  at : t .at ≡ from + length (flatten (take (length (t .states)) records))
   whole : t .refusal ≡ accepted → length (t .states) ≡ length records
   refused : (t .refusal ≡ accepted → ⊥)
       → (length (t .states) < length records) × (actOn (lastOf s (t .states)) (getD records (length (t .states)) []) .refusal ≡ t .refusal)
@@ -46,7 +43,7 @@ record Traced (s : State) (from : ℕ) (records : List (List ℕ)) (t : Trace) :
 traced-by : (s : State) (from : ℕ) (bytes : List ℕ) (records : List (List ℕ)) (t : Trace)
     → Traced (actOn s bytes .state) (from + length bytes) records t → (n : ℕ) → actOn s bytes .refusal ≡ n
     → Traced s from (bytes ∷ records) (traceBy n from (actOn s bytes .state) t)
-unfolding traceBy statesAfter joined lastOf
+unfolding traceBy statesAfter flatten lastOf
 traced-by s from bytes records t r zero e =
     let acts : act s (actionIn bytes) ≡ actOn s bytes = sym (accepted-acts s bytes e) in
     let next : act s (actionIn bytes) .state ≡ actOn s bytes .state = ap (λ (o : Outcome). o .state) acts in
@@ -70,7 +67,7 @@ traced-by s from bytes records t r (suc n) e =
 
 -- so it is of any records
 traced : (s : State) (from : ℕ) (records : List (List ℕ)) → Traced s from records (traceFrom s from records)
-unfolding traceFrom statesAfter joined
+unfolding traceFrom statesAfter flatten
 traced s from [] =
     record {
       few = omega arith;
@@ -84,15 +81,6 @@ traced s from (bytes ∷ records) =
     let next : State = actOn s bytes .state in
     traced-by s from bytes records (traceFrom next (from + length bytes) records) (traced next (from + length bytes) records)
     (actOn s bytes .refusal) refl
-
--- the last state of accepted actions meets the rules as the first does, is tidy, and has its limits
-last-after : (s : State) → rules s ≡ true → tidy s ≡ s → (actions : List Action) → AllAccepted s actions → Kept s (lastOf s (statesAfter s actions))
-unfolding statesAfter lastOf
-last-after s met tidied [] h = record { rules = met; tidy = tidied; limits = refl }
-last-after s met tidied (x ∷ xs) h =
-    let one = act-kept s x (h .0) in
-    let all = last-after (act s x .state) (one .rules) (one .tidy) xs (h .1) in
-    record { rules = all .rules; tidy = all .tidy; limits = all .limits ∙ one .limits }
 
 -- ---- a run
 -- the actions of its accepted records: as many as the verdict says, from the first on
@@ -134,11 +122,13 @@ module _ (run : List ℕ) (ok : opening run .refusal ≡ accepted) where
   last-state = ap (λ (v : Verdict). v .state) (opened run ok) ∙ ap (lastOf (firstState run)) states-are
 
   pub last-kept : Kept (firstState run) (judge run .state)
-  last-kept = rw last-state (last-after (firstState run) (opening-rules run ok) (opening-tidy run ok) (acceptedActions run) actions-accepted)
+  last-kept =
+      let kept = kept-same (firstState run) (opening-rules run ok) (opening-tidy run ok) in
+      rw (opened run ok) (last-each (Kept (firstState run)) (firstState run) (traceOf run .states) kept (trace-kept (firstState run) (recordsOf run) (firstState run) recordWidth kept))
 
   -- ---- its end
   -- it is behind the bytes of the accepted records
-  pub at-behind : judge run .at ≡ recordWidth + length (joined (take (judge run .accepted) (recordsOf run)))
+  pub at-behind : judge run .at ≡ recordWidth + length (flatten (take (judge run .accepted) (recordsOf run)))
   at-behind = rw (opened run ok) (facts .at)
 
   -- not refused, it has accepted every record

@@ -2,12 +2,12 @@
 use Prim.Native.Nat.{ℕ, zero, suc}
 use mathlib.Core.Path.{_≡_, refl, sym, ap, ap₂, _∙_}
 use mathlib.Core.Bool.{cond}
-use mathlib.Core.List.{List, _++_, map}
+use mathlib.Core.List.{List, _++_, map, flatten}
 use native.Mathlib.Omega.{arith}
 use lib.Dec.{ltb}
 use lib.ListN.{length, drop}
 use lib.Seq.{take-at, drop-at}
-use Rattle.logic.specs.Pieces.{pieces, joined, pieces-more, joined-length, pieces-again}
+use Rattle.logic.specs.Pieces.{pieces, pieces-more, changed-length, pieces-again}
 use Rattle.parts.specs.Refusal.{accepted, runTooLong}
 use Rattle.cluster.specs.declared.Limits.{Limits}
 use Rattle.cluster.specs.declared.State.{State}
@@ -15,7 +15,7 @@ use Rattle.cluster.specs.declared.Outcome.{Outcome}
 use Rattle.cluster.specs.State.{replicaCount, zeroState}
 use Rattle.cluster.specs.Fresh.{answer}
 use Rattle.runs.specs.Run.{recordWidth, longestRun, configure, opening, recordsOf, traceFrom, verdictOf, verdictFrom, judgeBy, judge}
-use Rattle.runs.specs.Opening.{front, limitsIn, firstState, configuration-whole, opening-six, front-six, opening-in-range, opening-state, opening-limits, opening-rules, opening-tidy, opening-blank}
+use Rattle.runs.specs.Opening.{front, limitsIn, firstState, configuration-whole, opening-six, front-six, opening-in-range, opening-state, opening-limits, opening-rules, opening-tidy}
 use Rattle.renamings.specs.Names.{newName, isRenaming}
 use Rattle.renamings.specs.Rename.{renamed, Renames}
 use Rattle.renamings.specs.FreshRenamed.{zero-renamed, fresh-renamed}
@@ -29,7 +29,7 @@ unfolding renameRun renameRunBy
 run-length run p = go (opening run .refusal)
   where
     go : (k : ℕ) → length (renameRunBy k (replicasOf run) (newName p) run) ≡ length run
-    go zero = joined-length 5 (renameRecord (replicasOf run) (newName p)) (record-length (replicasOf run) (newName p)) run
+    go zero = changed-length 5 (renameRecord (replicasOf run) (newName p)) (record-length (replicasOf run) (newName p)) run
     go (suc k) = refl
 
 -- the records behind the configuration, renamed
@@ -38,22 +38,22 @@ renamedRecords run p = map (renameRecord (replicasOf run) (newName p)) (recordsO
 
 -- where the configuration is accepted, it stays, and each record behind it is renamed
 module _ (run p : List ℕ) (e : opening run .refusal ≡ accepted) where
-  run-behind : renameRun p run ≡ front run ++ joined (renamedRecords run p)
-  unfolding renameRun renameRunBy joined
+  run-behind : renameRun p run ≡ front run ++ flatten (renamedRecords run p)
+  unfolding renameRun renameRunBy flatten
   run-behind =
       ap (λ (k : ℕ). renameRunBy k (replicasOf run) (newName p) run) e
-      ∙ ap (λ (l : List (List ℕ)). joined (map (renameRecord (replicasOf run) (newName p)) l))
+      ∙ ap (λ (l : List (List ℕ)). flatten (map (renameRecord (replicasOf run) (newName p)) l))
       (pieces-more 5 run (omega (arith, opening-six run e)))
-      ∙ ap (λ (bytes : List ℕ). bytes ++ joined (renamedRecords run p))
+      ∙ ap (λ (bytes : List ℕ). bytes ++ flatten (renamedRecords run p))
       (configuration-stays (replicasOf run) (newName p) (front run) (configuration-whole run e))
 
   front-renamed : front (renameRun p run) ≡ front run
-  front-renamed = ap front run-behind ∙ take-at (front run) (joined (renamedRecords run p)) recordWidth (front-six run e)
+  front-renamed = ap front run-behind ∙ take-at (front run) (flatten (renamedRecords run p)) recordWidth (front-six run e)
 
   records-renamed : recordsOf (renameRun p run) ≡ renamedRecords run p
   records-renamed =
       ap recordsOf run-behind
-      ∙ ap (pieces recordWidth) (drop-at (front run) (joined (renamedRecords run p)) recordWidth (front-six run e))
+      ∙ ap (pieces recordWidth) (drop-at (front run) (flatten (renamedRecords run p)) recordWidth (front-six run e))
       ∙ pieces-again 5 (renameRecord (replicasOf run) (newName p)) (record-length (replicasOf run) (newName p)) (drop recordWidth run)
 
 -- its length and its configuration answer the same
@@ -99,11 +99,9 @@ module _ (run p : List ℕ) (r : RenamesRun run p) where
   unfolding judgeBy
   by-opening zero e =
       ap (λ (records : List (List ℕ)). verdictFrom start (traceFrom start recordWidth records)) (records-renamed run p e) ∙ opened-verdict e
-  by-opening (suc k) e =
-      let zeros : start ≡ zeroState = opening-blank run (λ h. omega (arith, e, h)) in
-      ap (verdictOf 0 (suc k) 0 0 0 0) (zeros ∙ sym (zero-renamed (r .count) (r .few) p (r .renaming)) ∙ ap (renamed p) (sym zeros))
+  by-opening (suc k) e = ap (verdictOf 0 (suc k) 0 0 0 0) (sym (zero-renamed (r .count) (r .few) p (r .renaming)))
 
--- "a run of any bytes, renamed throughout, stops at the same byte with the same numbers and the renamed last state"
+-- demand 3: "a run of any bytes, renamed throughout, stops at the same byte with the same numbers and the renamed last state"
 pub run-renamed : (run p : List ℕ) → RenamesRun run p → judge (renameRun p run) ≡ renameVerdict p (judge run)
 unfolding judge
 run-renamed run p r =

@@ -23,11 +23,12 @@ use Rattle.cluster.specs.State.{replicaCount, tidy}
 use Rattle.cluster.specs.Rules.{rules}
 use Rattle.cluster.specs.Fresh.{answer}
 use Rattle.cluster.specs.Act.{actionOf, act}
-use Rattle.actions.specs.Kept.{Kept}
+use Rattle.actions.specs.Kept.{Kept, kept-same}
 use Rattle.questions.specs.declared.Property.the-variants.{WeakIsr, StrongIsr}
 use Rattle.questions.specs.Exposed.{exposed}
 use Rattle.runs.specs.Run.{recordWidth, configurationMark, actionMark, recordRefusal, recordAnswer, actionIn, actOn, Trace, acceptedThen, traceBy, traceFrom, lastOf, weakHolds, strongHolds, verdictFrom}
-use Rattle.runs.specs.RecordLaws.{whole-record, act-on-kept}
+use Rattle.runs.specs.RecordLaws.{whole-record}
+use Rattle.runs.specs.TraceLaws.{kept-on, trace-kept}
 use Rattle.renamings.specs.Names.{newName, isRenaming}
 use Rattle.renamings.specs.Rename.{renameAction, renamed, Renames}
 use Rattle.renamings.specs.RenameTheorems.{renamed-act, renamed-holds, renamed-exposed}
@@ -110,13 +111,6 @@ unfolding traceBy
 by-renamed p zero at next rest other h = ap (acceptedThen (renamed p next)) h
 by-renamed p (suc k) at next rest other h = refl
 
--- and what holds of each state
-by-each : (P : State → Type 0) (number at : ℕ) (next : State) (rest : Trace) → P next → Each P (rest .states)
-    → Each P (traceBy number at next rest .states)
-unfolding traceBy
-by-each P zero at next rest one others = (one, others)
-by-each P (suc k) at next rest one others = tt
-
 -- the last state
 last-renamed : (p : List ℕ) (s : State) (states : List State) → lastOf (renamed p s) (map (renamed p) states) ≡ renamed p (lastOf s states)
 unfolding lastOf
@@ -132,27 +126,12 @@ module _ (s : State) (p : List ℕ) (f : Renames s p) where
   renames-on : (t : State) → Kept s t → Renames t p
   renames-on t k = ap (λ (c : Limits). isRenaming (replicaCount c) p) (k .limits) ∙ f
 
-  -- a record hands back another such state
-  kept-on : (t : State) (bytes : List ℕ) → Kept s t → Kept s (actOn t bytes .state)
-  kept-on t bytes k =
-      let next = act-on-kept t bytes (k .rules) (k .tidy) in
-      record { rules = next .rules; tidy = next .tidy; limits = next .limits ∙ k .limits }
-
-  -- and a renamed record on the renamed state gets the renamed answer
+  -- a renamed record on the renamed state gets the renamed answer
   renamed-on : (t : State) (bytes : List ℕ) → Kept s t
       → actOn (renamed p t) (rename bytes) ≡ answer (actOn t bytes .refusal) (renamed p (actOn t bytes .state))
   renamed-on t bytes k =
       ap (λ (c : Limits). actOn (renamed p t) (renameRecord (replicaCount c) (newName p) bytes)) (sym (k .limits))
       ∙ act-on-renamed t (k .rules) p (renames-on t k) bytes
-
-  -- every state of the trace keeps what s has
-  trace-kept : (records : List (List ℕ)) (t : State) (at : ℕ) → Kept s t → Each (Kept s) (traceFrom t at records .states)
-  unfolding traceFrom
-  trace-kept [] t at k = tt
-  trace-kept (bytes ∷ records) t at k =
-      let next : State = actOn t bytes .state in
-      by-each (Kept s) (actOn t bytes .refusal) at next (traceFrom next (at + length bytes) records)
-      (kept-on t bytes k) (trace-kept records next (at + length bytes) (kept-on t bytes k))
 
   -- the renamed records on the renamed state have the renamed trace
   trace-renamed : (records : List (List ℕ)) (t : State) (at : ℕ) → Kept s t
@@ -165,7 +144,7 @@ module _ (s : State) (p : List ℕ) (f : Renames s p) where
       (renamed-on t bytes k) (record-length (replicaCount (s .limits)) (newName p) bytes)
       ∙ by-renamed p (actOn t bytes .refusal) at next (traceFrom next (at + length bytes) records)
       (traceFrom (renamed p next) (at + length bytes) (map rename records))
-      (trace-renamed records next (at + length bytes) (kept-on t bytes k))
+      (trace-renamed records next (at + length bytes) (kept-on s t bytes k))
 
   -- a renamed trace has the renamed verdict
   of-renamed : (trace : Trace) → Each (Kept s) (s ∷ trace .states)
@@ -183,6 +162,6 @@ module _ (s : State) (p : List ℕ) (f : Renames s p) where
   pub verdict-renamed : rules s ≡ true → tidy s ≡ s → (at : ℕ) (records : List (List ℕ))
       → verdictFrom (renamed p s) (traceFrom (renamed p s) at (map rename records)) ≡ renameVerdict p (verdictFrom s (traceFrom s at records))
   verdict-renamed h t at records =
-      let kept : Kept s s = record { rules = h; tidy = t; limits = refl } in
+      let kept = kept-same s h t in
       ap (verdictFrom (renamed p s)) (trace-renamed records s at kept)
-      ∙ of-renamed (traceFrom s at records) (kept, trace-kept records s at kept)
+      ∙ of-renamed (traceFrom s at records) (kept, trace-kept s records s at kept)

@@ -29,6 +29,9 @@ slice-aggregate-write-all c = search needs
 write-all-requires : tie.Need-write-all-requires Inv-loop μ-loop
 write-all-requires c κs = search needs
 
+returns : tie.Need-returns Inv-loop μ-loop
+returns c = search needs
+
 add-i : tie.Need-add-i Inv-loop μ-loop
 add-i c = search needs
 
@@ -38,8 +41,8 @@ loop-less c = search needs
 loop-again : tie.Need-loop-again Inv-loop μ-loop
 loop-again c = search needs
 
-returns : tie.Need-returns Inv-loop μ-loop
-returns c = search needs
+returns-2 : tie.Need-returns-2 Inv-loop μ-loop
+returns-2 c = search needs
 
 pub hex-spec : {M : Type 1} → statement M
 hex-spec =
@@ -53,7 +56,8 @@ hex-spec =
     digit-requires-2
     slice-aggregate-write-all
     write-all-requires
+    returns
     add-i
     loop-less
     loop-again
-    returns)
+    returns-2)

@@ -1,0 +1,47 @@
+-- A run with its two brokers exchanged, computed on the definitions: what the theorem on renamed runs cannot tell, because it
+-- decides no verdict, is seen here. Assumes nothing.
+use Prim.Native.Nat.{ℕ}
+use mathlib.Core.Path.{_≡_, refl}
+use mathlib.Core.List.{List, [], _∷_, flatten}
+use Rattle.logic.specs.Tests.{every}
+use Rattle.logic.specs.Table.{table, tableFrom}
+use Rattle.logic.specs.Refuse.{refuse}
+use Rattle.logic.specs.Pieces.{piecesUpTo, pieces}
+use Rattle.parts.specs.Mark.{marked}
+use Rattle.cluster.specs.Rules.{between, inRange}
+use Rattle.cluster.specs.Fresh.{freshState, fresh}
+use Rattle.cluster.specs.Act.{kindOf, uses}
+use Rattle.runs.specs.Run.{recordRefusal, recordAnswer, configure, opening}
+use Rattle.renamings.specs.Names.{newName}
+use Rattle.renamings.specs.Rename.{renameOperand, renameAction}
+use Rattle.verdicts.specs.RenameRun.{renameRecordBy, renameRecord, renameRunBy, renameRun}
+use Rattle.verdicts.specs.Examples.{configuration, action, elect, leader, follower, replicate}
+
+-- the renaming that exchanges 0 and 1
+abbrev exchange : List ℕ
+exchange = 1 ∷ 0 ∷ 2 ∷ 3 ∷ 4 ∷ []
+
+-- six bytes with another mark, and the first five of a record
+abbrev unmarked : List ℕ
+unmarked = 0 ∷ 1 ∷ 0 ∷ 1 ∷ 0 ∷ 1 ∷ []
+
+abbrev torn : List ℕ
+torn = 75 ∷ 65 ∷ 1 ∷ 0 ∷ 1 ∷ []
+
+-- The second election is refused. It and each whole action behind it are renamed; an operand that is not below R, one that its
+-- kind does not use, the operands of a kind above 8, a configuration, another mark and a torn tail stay.
+pub exchanged-run : renameRun exchange
+    (flatten
+    (configuration 2 4 4 3 ∷ elect 0 ∷ elect 0 ∷ elect 1 ∷ elect 2 ∷ replicate 0 1 ∷ follower 1 0 ∷ action 3 1 1 0 ∷ leader 1 ∷ action 9 0 1 0
+    ∷ configuration 0 1 1 1 ∷ unmarked ∷ torn ∷ []))
+    ≡ flatten
+    (configuration 2 4 4 3 ∷ elect 1 ∷ elect 1 ∷ elect 0 ∷ elect 2 ∷ replicate 1 0 ∷ follower 0 0 ∷ action 3 0 1 0 ∷ leader 1 ∷ action 9 0 1 0
+    ∷ configuration 0 1 1 1 ∷ unmarked ∷ torn ∷ [])
+unfolding renameRun renameRunBy renameRecord renameRecordBy renameAction renameOperand newName opening configure recordAnswer
+    recordRefusal fresh freshState inRange between flatten pieces piecesUpTo marked refuse uses kindOf every table tableFrom
+exchanged-run = refl
+
+-- a run whose configuration is refused stays
+pub refused-run-stays : renameRun exchange (flatten (configuration 6 4 4 3 ∷ elect 0 ∷ [])) ≡ flatten (configuration 6 4 4 3 ∷ elect 0 ∷ [])
+unfolding renameRun renameRunBy opening configure recordAnswer recordRefusal fresh inRange between flatten marked refuse every
+refused-run-stays = refl
