@@ -1,12 +1,11 @@
--- What an action answers, whatever the state and the four bytes: a number from 0 to 19; refused, the state as given; accepted,
--- the model's next state; and equal states get equal answers. Assumes nothing.
+-- What an action answers, whatever the state and the four bytes: a number from 0 to 19, and 1 only for a state that breaks a rule;
+-- refused, the state as given; accepted, the model's next state; and equal states get equal answers. Assumes nothing.
 use Prim.Native.Nat.{ℕ, zero, suc, _≤_}
-use mathlib.Core.Path.{_≡_, refl, sym, _∙_, ap₂}
+use mathlib.Core.Path.{_≡_, sym, _∙_, ap, ap₂}
 use mathlib.Core.Bool.{Bool, true, false, not}
+use mathlib.Core.Logic.{_≢_}
 use native.Mathlib.Omega.{arith}
-use lib.Dec.{leb}
-use borrow.Author.Tests.{leb-true}
-use Rattle.logic.specs.Refuse.{refuse}
+use Rattle.logic.specs.Refuse.{refuse, refuse-no}
 use Rattle.parts.specs.declared.Leader.{Leader}
 use Rattle.parts.specs.declared.Leader.the-variants.{None, Broker}
 use Rattle.parts.specs.Refusal.{accepted, brokenState}
@@ -15,6 +14,7 @@ use Rattle.cluster.specs.declared.Action.{Action}
 use Rattle.cluster.specs.declared.Kind.{Kind}
 use Rattle.cluster.specs.declared.Kind.the-variants.{ControllerShrinkIsr, ControllerElectLeader, BecomeLeader, BecomeFollower, LeaderWrite, LeaderShrinkIsr, LeaderExpandIsr, LeaderIncHighWatermark, FollowerReplicate, Unknown}
 use Rattle.cluster.specs.State.{requestAt, Same, tidy}
+use Rattle.cluster.specs.Rules.{rules}
 use Rattle.cluster.specs.Fresh.{answer}
 use Rattle.cluster.specs.Equality.{same-refl, same-iff-tidy}
 use Rattle.cluster.specs.Unused.{rules-same}
@@ -37,41 +37,58 @@ pub act-refused : (s : State) (action : Action) → (refusal s action ≡ accept
 unfolding act
 act-refused s action h = sym (answer-other (refusal s action) s (effect (tidy s) action) h)
 
--- ---- the numbers are 0 to 19
-refuse-small : (test : Bool) (number rest : ℕ) → leb number 19 ≡ true → rest ≤ 19 → refuse test number rest ≤ 19
-unfolding refuse
-refuse-small true number rest h k = leb-true number 19 h
-refuse-small false number rest h k = k
+-- ---- the numbers are 0 to 19, and 1 only for a state that breaks a rule
+-- a number that a state which meets the rules may answer
+abbrev Listed : ℕ → Type 0
+Listed n = (n ≤ 19) × (n ≢ brokenState)
 
-accepted-small : accepted ≤ 19
-accepted-small = omega arith
+refuse-listed : (test : Bool) (number rest : ℕ) → Listed number → Listed rest → Listed (refuse test number rest)
+unfolding refuse
+refuse-listed true number rest h k = h
+refuse-listed false number rest h k = k
+
+accepted-listed : Listed accepted
+accepted-listed = omega arith
 
 module _ (s : State) where
-  leader-small : (e : ℕ) (leader : Leader) → leaderRefusal s e leader ≤ 19
+  leader-listed : (e : ℕ) (leader : Leader) → Listed (leaderRefusal s e leader)
   unfolding leaderRefusal
-  leader-small e None = omega arith
-  leader-small e (Broker b) = refuse-small _ _ _ refl accepted-small
+  leader-listed e None = omega arith
+  leader-listed e (Broker b) = refuse-listed _ _ _ (omega arith) accepted-listed
 
-  table-small : (kind : Kind) (a b e : ℕ) → tableRefusal kind s a b e ≤ 19
+  table-listed : (kind : Kind) (a b e : ℕ) → Listed (tableRefusal kind s a b e)
   unfolding tableRefusal controllerShrinkIsrRefusal controllerElectLeaderRefusal becomeLeaderRefusal becomeFollowerRefusal leaderWriteRefusal
       leaderShrinkIsrRefusal leaderExpandIsrRefusal leaderIncHighWatermarkRefusal followerReplicateRefusal
-  table-small ControllerShrinkIsr a b e = refuse-small _ _ _ refl (refuse-small _ _ _ refl accepted-small)
-  table-small ControllerElectLeader a b e = refuse-small _ _ _ refl (refuse-small _ _ _ refl (refuse-small _ _ _ refl accepted-small))
-  table-small BecomeLeader a b e = refuse-small _ _ _ refl (leader-small e (requestAt s e .leader))
-  table-small BecomeFollower a b e = refuse-small _ _ _ refl (refuse-small _ _ _ refl (refuse-small _ _ _ refl accepted-small))
-  table-small LeaderWrite a b e = refuse-small _ _ _ refl (refuse-small _ _ _ refl (refuse-small _ _ _ refl accepted-small))
-  table-small LeaderShrinkIsr a b e = refuse-small _ _ _ refl (refuse-small _ _ _ refl (refuse-small _ _ _ refl (refuse-small _ _ _ refl accepted-small)))
-  table-small LeaderExpandIsr a b e = refuse-small _ _ _ refl (refuse-small _ _ _ refl (refuse-small _ _ _ refl accepted-small))
-  table-small LeaderIncHighWatermark a b e = refuse-small _ _ _ refl (refuse-small _ _ _ refl accepted-small)
-  table-small FollowerReplicate a b e = refuse-small _ _ _ refl (refuse-small _ _ _ refl (refuse-small _ _ _ refl accepted-small))
-  table-small Unknown a b e = omega arith
+  table-listed ControllerShrinkIsr a b e = refuse-listed _ _ _ (omega arith) (refuse-listed _ _ _ (omega arith) accepted-listed)
+  table-listed ControllerElectLeader a b e = refuse-listed _ _ _ (omega arith) (refuse-listed _ _ _ (omega arith) (refuse-listed _ _ _ (omega arith) accepted-listed))
+  table-listed BecomeLeader a b e = refuse-listed _ _ _ (omega arith) (leader-listed e (requestAt s e .leader))
+  table-listed BecomeFollower a b e = refuse-listed _ _ _ (omega arith) (refuse-listed _ _ _ (omega arith) (refuse-listed _ _ _ (omega arith) accepted-listed))
+  table-listed LeaderWrite a b e = refuse-listed _ _ _ (omega arith) (refuse-listed _ _ _ (omega arith) (refuse-listed _ _ _ (omega arith) accepted-listed))
+  table-listed LeaderShrinkIsr a b e = refuse-listed _ _ _ (omega arith) (refuse-listed _ _ _ (omega arith) (refuse-listed _ _ _ (omega arith) (refuse-listed _ _ _ (omega arith) accepted-listed)))
+  table-listed LeaderExpandIsr a b e = refuse-listed _ _ _ (omega arith) (refuse-listed _ _ _ (omega arith) (refuse-listed _ _ _ (omega arith) accepted-listed))
+  table-listed LeaderIncHighWatermark a b e = refuse-listed _ _ _ (omega arith) (refuse-listed _ _ _ (omega arith) accepted-listed)
+  table-listed FollowerReplicate a b e = refuse-listed _ _ _ (omega arith) (refuse-listed _ _ _ (omega arith) (refuse-listed _ _ _ (omega arith) accepted-listed))
+  table-listed Unknown a b e = omega arith
 
+-- of an action on a state that meets the rules and is tidy
+action-listed : (s : State) (action : Action) → Listed (actionRefusal s action)
+unfolding actionRefusal
+action-listed s action =
+    refuse-listed _ _ _ (omega arith)
+    (refuse-listed _ _ _ (omega arith) (table-listed s (kindOf (action .kind)) (action .a) (action .b) (action .e)))
+
+-- of one on any state
 pub refusal-small : (s : State) (action : Action) → refusal s action ≤ 19
-unfolding refusal actionRefusal
-refusal-small s action =
-    refuse-small _ _ _ refl
-    (refuse-small _ _ _ refl
-    (refuse-small _ _ _ refl (table-small (tidy s) (kindOf (action .kind)) (action .a) (action .b) (action .e))))
+unfolding refusal refuse
+refusal-small s action = go (rules s)
+  where
+    go : (b : Bool) → refuse (not b) brokenState (actionRefusal (tidy s) action) ≤ 19
+    go true = action-listed (tidy s) action .0
+    go false = omega arith
+
+pub refusal-met : (s : State) (action : Action) → rules s ≡ true → refusal s action ≢ brokenState
+unfolding refusal
+refusal-met s action h = rw (← refuse-no _ _ _ (ap not h)) (action-listed (tidy s) action .1)
 
 -- ---- equal states get equal answers: no answer depends on unused room
 answer-same : (n : ℕ) (s t next : State) → Same s t → Same (answerBy n s next .state) (answerBy n t next .state)

@@ -202,3 +202,23 @@ unfolding firstFailing every
 failing-zero k [] = ((λ e. refl), (λ e. refl))
 failing-zero k (true ∷ bs) = failing-zero (suc k) bs
 failing-zero k (false ∷ bs) = ((λ e. absurd (omega arith)), (λ e. absurd (true-false (sym e))))
+
+-- and otherwise it has at least the number of the first
+failing-from : (k j : ℕ) (bs : List Bool) → firstFailing (suc k) bs ≡ suc j → k ≤ j
+unfolding firstFailing
+failing-from k j [] h = absurd (omega arith)
+failing-from k j (true ∷ bs) h = omega (arith, failing-from (suc k) j bs h)
+failing-from k j (false ∷ bs) h = omega arith
+
+-- so the test of that number fails, and every one before it holds
+pub failing-at : (k i : ℕ) (bs : List Bool) → firstFailing (suc k) bs ≡ suc k + i
+    → (i < length bs) × (getD bs i true ≡ false) × ((j : ℕ) → j < i → getD bs j true ≡ true)
+unfolding firstFailing
+failing-at k i [] h = absurd (omega arith)
+failing-at k zero (true ∷ bs) h = absurd (omega (arith, failing-from (suc k) k bs (omega arith)))
+failing-at k (suc i) (true ∷ bs) h = let rest = failing-at (suc k) i bs (omega arith) in (omega (arith, rest .0), rest .1, before (rest .2))
+  where
+    before : ((j : ℕ) → j < i → getD bs j true ≡ true) → (j : ℕ) → j < suc i → getD (true ∷ bs) j true ≡ true
+    before f zero l = refl
+    before f (suc j) l = f j (omega arith)
+failing-at k i (false ∷ bs) h = let e : i ≡ 0 = omega arith in rw e (omega arith, refl, λ j l. absurd (omega arith))

@@ -2,6 +2,7 @@ pub mod RenameRun
 pub mod TraceRenamed
 pub mod RunRenamed
 pub mod RunBehaviour
+pub mod RunProperties
 pub mod VerdictLaws
 pub mod Examples
 pub mod RenameExample
