@@ -78,6 +78,7 @@ pub record Trace : Type 0 where
   pub refusal : ℕ
   pub at : ℕ
 
+-- no action more: this number, at this byte
 abbrev pub stopped : ℕ → ℕ → Trace
 stopped number at = record { states = []; refusal = number; at = at }
 
@@ -98,6 +99,7 @@ traceFrom s at (bytes ∷ records) =
     traceBy (actOn s bytes .refusal) at (actOn s bytes .state) rest
 
 -- ---- the verdict
+-- the numbers in the order of the paper, and the last state
 abbrev pub verdictOf : ℕ → ℕ → ℕ → ℕ → ℕ → ℕ → State → Verdict
 verdictOf count number at weak strong greatest s =
     record { accepted = count; refusal = number; at = at; weak = weak; strong = strong; exposed = greatest; state = s }
@@ -107,6 +109,7 @@ unfoldable pub lastOf : State → List State → State
 lastOf s [] = s
 lastOf s (t ∷ ts) = lastOf t ts
 
+-- weak ISR, and strong ISR, hold of a state
 abbrev pub weakHolds : State → Bool
 weakHolds s = weakIsr s .holds
 
