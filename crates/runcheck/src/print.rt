@@ -5,7 +5,7 @@ use libc::STDOUT_FILENO;
 use parts::refusal::ACCEPTED;
 use runs::Verdict;
 
-// One name, one space and one number. Answers, as each function here does, whether all was written.
+// One name, one space and one number. Answers whether all was written, as `hex`, `image` and `verdict` do.
 fn line(name: &[u8], number: usize) -> bool {
     io::write_all(STDOUT_FILENO, name)
         && io::write_all(STDOUT_FILENO, b" ")

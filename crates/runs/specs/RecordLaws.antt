@@ -47,7 +47,7 @@ module _ (n : ℕ) (before : State) (said : Outcome) where
   unfolding recordAnswer
   record-said h = rw h
 
--- at any other number it is that and the state before; so it is 0 only there
+-- at any other number it is that and the state before; so the answer is 0 only where n is
 pub record-refused : (n : ℕ) (before : State) (said : Outcome) → (n ≡ accepted → ⊥) → recordAnswer n before said ≡ answer n before
 unfolding recordAnswer
 record-refused zero before said h = absurd (h refl)

@@ -1,4 +1,5 @@
--- Every state of a trace meets the rules and is tidy as the first one does, and has its limits. Assumes nothing.
+-- Where the first state of a trace meets the rules and is tidy, so does and is every state of it, with the same limits. Assumes
+-- nothing.
 use Prim.Native.Nat.{ℕ, zero, suc, _+_}
 use mathlib.Core.List.{List, [], _∷_}
 use lib.ListN.{length}

@@ -20,9 +20,10 @@ const RECORD_WIDTH: usize = 6;
 // The most bytes that a run may have.
 pub const LONGEST_RUN: usize = 65532;
 
-// The verdict of a run: how many actions were accepted; the refusal, or 0; the byte where the refused record starts, the
-// length of the run where none is, 0 where the run is too long; how many actions were accepted when weak ISR, and when strong ISR, first failed, or 0; the greatest high
-// watermark of any presuming replica in any state; the last state, all zeros where no configuration was accepted.
+// The verdict of a run: how many actions were accepted; the refusal, or 0; the byte where the refused record starts, the length
+// of the run where none is refused, 0 where the run is too long; how many actions were accepted when weak ISR, and when strong
+// ISR, first failed, or 0; the greatest high watermark of any presuming replica in any state; the last state, all zeros where no
+// configuration was accepted.
 pub struct Verdict {
     pub accepted: usize,
     pub refusal: u8,

@@ -19,7 +19,7 @@ use Rattle.renamings.specs.Rename.{renameAction, renamed}
 abbrev pub withOperands : List ℕ → Action → List ℕ
 withOperands bytes action = set (set bytes 3 (action .a)) 4 (action .b)
 
--- by the number of six bytes and the action mark: put anew where both are there, else left
+-- by what the record's length and its mark answer: at 0 the operands are put anew, else the bytes stay
 unfoldable pub renameRecordBy : ℕ → List ℕ → Action → List ℕ
 renameRecordBy zero bytes action = withOperands bytes action
 renameRecordBy (suc k) bytes action = bytes
@@ -29,7 +29,7 @@ unfoldable pub renameRecord : ℕ → (ℕ → ℕ) → List ℕ → List ℕ
 renameRecord n to bytes = renameRecordBy (recordRefusal actionMark bytes) bytes (renameAction n to (actionIn bytes))
 
 -- ---- a run
--- by the number of its length and its configuration: each of its records is renamed where the configuration is accepted
+-- by the number that its length and its configuration answer: at 0 each of its records is renamed, else it stays
 unfoldable pub renameRunBy : ℕ → ℕ → (ℕ → ℕ) → List ℕ → List ℕ
 renameRunBy zero n to run = flatten (map (renameRecord n to) (pieces recordWidth run))
 renameRunBy (suc k) n to run = run

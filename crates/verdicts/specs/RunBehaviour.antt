@@ -97,10 +97,11 @@ module _ (run : List ℕ) (ok : opening run .refusal ≡ accepted) where
   facts = traced (firstState run) recordWidth (recordsOf run)
 
   -- ---- its states
-  -- behind the first there is one for each accepted action: that which it hands back
+  -- no more actions are accepted than there are records
   pub accepted-few : judge run .accepted ≤ length (recordsOf run)
   accepted-few = rw (opened run ok) (facts .few)
 
+  -- behind the first state there is one for each accepted action: that which it hands back
   pub as-many : length (acceptedActions run) ≡ judge run .accepted
   as-many = rw length-map (length-take-le (judge run .accepted) (recordsOf run) accepted-few)
 
@@ -117,7 +118,7 @@ module _ (run : List ℕ) (ok : opening run .refusal ≡ accepted) where
       let b = sequence-is-behaviour (limitsIn run) (fresh-opened run ok) (acceptedActions run) in
       rw (opening-limits run ok) ((rw (← opening-fresh run ok) at b) actions-accepted)
 
-  -- the last one meets S1 to S7, is tidy, and has the limits of the first
+  -- the last of them is the verdict's; it meets S1 to S7, is tidy, and has the limits of the first
   pub last-state : judge run .state ≡ lastOf (firstState run) (statesAfter (firstState run) (acceptedActions run))
   last-state = ap (λ (v : Verdict). v .state) (opened run ok) ∙ ap (lastOf (firstState run)) states-are
 

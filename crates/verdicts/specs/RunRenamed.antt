@@ -98,7 +98,7 @@ module _ (run p : List ℕ) (r : RenamesRun run p) where
         ap (λ (s : State). verdictFrom s (traceFrom s recordWidth (renamedRecords run p))) (sym start-stays)
         ∙ verdict-renamed start p renames-start (opening-rules run e) (opening-tidy run e) recordWidth (recordsOf run)
 
-  -- by the number of its length and its configuration
+  -- by the number that its length and its configuration answer
   by-opening : (k : ℕ) → opening run .refusal ≡ k
       → judgeBy k start (recordsOf (renameRun p run)) ≡ renameVerdict p (judgeBy k start (recordsOf run))
   unfolding judgeBy

@@ -32,7 +32,7 @@ use Rattle.verdicts.specs.RunBehaviour.{nextRecord, accepted-few, last-k
 use Rattle.verdicts.specs.RunProperties.{stateAt, state-kept, exposed-run-by}
 
 -- ---- where a run stops
--- refused: at the record behind the accepted ones, which is inside and is judged on its own part of the input
+-- refused: at the record behind the accepted ones, which starts inside the run and is judged on its own part of the input
 pub record StopsAt (run : List ℕ) : Type 0 where
   pub more : judge run .accepted < length (recordsOf run)
   pub at : judge run .at ≡ recordWidth + recordWidth * judge run .accepted
