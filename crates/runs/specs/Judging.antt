@@ -44,6 +44,7 @@ after v s =
     (max (v .exposed) (exposed s)) s
 
 -- ---- the verdict so far and what follows
+-- the verdict of a run that has come to v, and goes on with this trace
 abbrev pub resumed : Verdict → Trace → Verdict
 resumed v trace =
     verdictOf (v .accepted + length (trace .states)) (trace .refusal) (trace .at)
@@ -120,6 +121,7 @@ here-end v run h =
     let none : length (drop (v .at) run) ≤ 0 = rw length-drop (omega arith) in
     resumed-stopped v accepted ∙ ap (λ (l : List (List ℕ)). resumed v (traceFrom (v .state) (v .at) l)) (sym (pieces-none recordWidth (drop (v .at) run) none))
 
+-- where bytes are left: the next record, and then the rest
 trace-more : (s : State) (at : ℕ) (l : List ℕ) → 0 < length l → traceFrom s at (pieces recordWidth l)
     ≡ traceBy (actOn s (take recordWidth l) .refusal) at (actOn s (take recordWidth l) .state)
     (traceFrom (actOn s (take recordWidth l) .state) (at + length (take recordWidth l)) (pieces recordWidth (drop recordWidth l)))

@@ -20,6 +20,7 @@ use Rattle.runs.specs.Run.{recordWidth, recordRefusal, recordAnswer, act
 
 -- ---- the number of a record's length and its mark
 module _ (mark : ℕ) (bytes : List ℕ) where
+  -- fewer than six bytes; six with another mark
   pub record-short : length bytes < recordWidth → recordRefusal mark bytes ≡ tooShort
   unfolding recordRefusal
   record-short h = sym (refuse-yes _ _ _ (lt-ltb (length bytes) recordWidth h))
@@ -41,11 +42,10 @@ module _ (mark : ℕ) (bytes : List ℕ) where
       (ltb-false (length bytes) recordWidth (p .0), not-false _ (refuse-zero _ _ _ (p .1) .0))
 
 -- ---- the answer of a record
-module _ (n : ℕ) (before : State) (said : Outcome) where
-  -- at 0 it is what the record says
-  pub record-said : n ≡ accepted → recordAnswer n before said ≡ said
-  unfolding recordAnswer
-  record-said h = rw h
+-- at 0 it is what the record says
+pub record-said : (n : ℕ) (before : State) (said : Outcome) → n ≡ accepted → recordAnswer n before said ≡ said
+unfolding recordAnswer
+record-said n before said h = rw h
 
 -- at any other number it is that and the state before; so the answer is 0 only where n is
 pub record-refused : (n : ℕ) (before : State) (said : Outcome) → (n ≡ accepted → ⊥) → recordAnswer n before said ≡ answer n before

@@ -2,9 +2,9 @@
 ghost use mathlib.Core.Path.{_≡_};
 ghost use mathlib.Core.Bool.{true};
 ghost use Prim.Native.Nat.{_≤_};
+ghost use Rattle.cluster.specs.State.{zeroState};
 ghost use Rattle.cluster.specs.Rules.{rules};
 ghost use Rattle.questions.specs.Isr.{askIsr};
-ghost use Rattle.cluster.specs.State.{zeroState};
 ghost use Rattle.runs.specs.Run.{longestRun, verdictOf};
 ghost use Rattle.runs.specs.Judging.{begun, refusedBy, failedAt, after};
 use crate::RECORD_WIDTH;

@@ -1,4 +1,5 @@
--- Demand 3 of runs, for every run of bytes and every renaming of its replicas: broker numbers are only names. Assumes nothing.
+-- Demand 3 of runs, for every run of bytes and every renaming of its replicas: broker numbers are only names. And a renamed run
+-- of bytes is bytes. Assumes nothing.
 use Prim.Native.Nat.{ℕ, zero, suc, _+_, _*_, _≤_, _<_}
 use mathlib.Core.Path.{_≡_, refl, sym, ap, ap₂, _∙_}
 use mathlib.Core.Bool.{Bool, true, false, _&&_, cond}
