@@ -61,9 +61,12 @@ requestBytesAt s e = requestBytes (requestAt s e)
 unfoldable pub requestsBytes : State → List ℕ
 requestsBytes s = concatBelow (nextLeaderEpoch s) (requestBytesAt s)
 
--- "per replica hw, epoch, leader, ISR, end", then its log
+-- "per replica hw, epoch, leader, ISR, end", with this byte for its leader; then its log
+abbrev pub replicaHeadBy : Replica → ℕ → List ℕ
+replicaHeadBy p leader = p .hw ∷ epochByte (p .epoch) ∷ leader ∷ p .isr ∷ p .end ∷ []
+
 abbrev pub replicaHead : Replica → List ℕ
-replicaHead p = p .hw ∷ epochByte (p .epoch) ∷ leaderByte (p .leader) ∷ p .isr ∷ p .end ∷ []
+replicaHead p = replicaHeadBy p (leaderByte (p .leader))
 
 unfoldable pub replicaBytes : Replica → List ℕ
 replicaBytes p = replicaHead p ++ logBytes p

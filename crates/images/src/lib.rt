@@ -1,5 +1,5 @@
 // The image of a state: written into a lent buffer, and read back.
-mod read;
+pub mod read;
 pub mod write;
 
 ghost use mathlib.Core.Path.{_≡_};

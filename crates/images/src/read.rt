@@ -47,7 +47,7 @@ struct StateRead {
 }
 
 // A record: id, epoch.
-fn record_of(bytes: &[u8], at: usize) -> Record
+pub fn record_of(bytes: &[u8], at: usize) -> Record
     requires { ⌜ at + recordWidth ≤ length (now bytes) ⌝ }
     ensures { λ r. ⌜ r ≡ recordOf (drop at (now (bytes .entry))) ⌝ }
 {

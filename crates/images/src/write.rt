@@ -2,11 +2,13 @@
 // them. The caller of each function shows that the buffer has room for the part, and that no log or array is read past its end.
 ghost use mathlib.Core.Path.{_≡_};
 ghost use mathlib.Core.Bool.{true};
+ghost use mathlib.Core.List.{[], _∷_};
 ghost use Prim.Native.Nat.{_+_, _≤_};
 ghost use lib.ListN.{length};
 ghost use Rattle.cluster.specs.Rules.{rules, Bounded, LogsBounded};
+ghost use Rattle.logic.specs.Concat.{concatBelow};
 ghost use Rattle.logic.specs.Stores.{Stored};
-ghost use Rattle.images.specs.Image.{recordBytes, logBytes, requestBytes, requestsBytes, replicaBytes, replicasBytes, headerBytes, image};
+ghost use Rattle.images.specs.Image.{recordBytes, recordBytesAt, requestBytes, requestsBytes, replicaHeadBy, replicaBytes, replicasBytes, headerBytes, image};
 use crate::HEADER_WIDTH;
 use crate::MARK_SECOND;
 use crate::RECORD_WIDTH;
@@ -18,27 +20,33 @@ use parts::mark;
 use replica::Record;
 use replica::Replica;
 
+// Two bytes.
+pub fn put_pair(out: &mut [u8], at: usize, x: u8, y: u8) -> usize
+    requires { ⌜ at + 2 ≤ length (now out) ⌝ }
+    ensures { λ n. ⌜ Stored (now (out .entry)) at (x ∷ y ∷ []) (now (out .exit)) n ⌝ }
+{
+    out[at] = x;
+    out[at + 1] = y;
+    at + 2
+}
+
 // A record: id, epoch.
 fn put_record(out: &mut [u8], at: usize, r: Record) -> usize
     requires { ⌜ at + length (recordBytes r) ≤ length (now out) ⌝ }
     ensures { λ n. ⌜ Stored (now (out .entry)) at (recordBytes r) (now (out .exit)) n ⌝ }
 {
-    let epoch = parts::epoch_byte(r.epoch);
-    out[at] = r.id;
-    out[at + 1] = epoch;
-    at + RECORD_WIDTH
+    put_pair(&mut out[..], at, r.id, parts::epoch_byte(r.epoch))
 }
 
-// The records of a log.
-fn put_log(out: &mut [u8], at: usize, p: Replica) -> usize
-    requires { ⌜ p .end ≤ 16 ⌝ }
-    requires { ⌜ at + length (logBytes p) ≤ length (now out) ⌝ }
-    ensures { λ n. ⌜ Stored (now (out .entry)) at (logBytes p) (now (out .exit)) n ⌝ }
+// The first records of a log, as many as are asked for.
+pub fn put_log(out: &mut [u8], at: usize, p: Replica, count: usize) -> usize
+    requires { ⌜ count ≤ 16 ⌝ }
+    requires { ⌜ at + length (concatBelow count (recordBytesAt p)) ≤ length (now out) ⌝ }
+    ensures { λ n. ⌜ Stored (now (out .entry)) at (concatBelow count (recordBytesAt p)) (now (out .exit)) n ⌝ }
 {
-    let end = p.end as usize;
     let mut x: usize = 0;
     let mut pos = at;
-    while x < end {
+    while x < count {
         let r = p.log[x];
         pos = put_record(&mut out[..], pos, r);
         x = x + 1;
@@ -52,10 +60,7 @@ fn put_request(out: &mut [u8], at: usize, q: Request) -> usize
     ensures { λ n. ⌜ Stored (now (out .entry)) at (requestBytes q) (now (out .exit)) n ⌝ }
 {
     let l = q.leader;
-    let leader = l.byte();
-    out[at] = leader;
-    out[at + 1] = q.isr;
-    at + REQUEST_WIDTH
+    put_pair(&mut out[..], at, l.byte(), q.isr)
 }
 
 // The requests that were sent.
@@ -75,21 +80,29 @@ fn put_requests(out: &mut [u8], at: usize, s: State) -> usize
     pos
 }
 
+// A replica up to its log: hw, epoch, leader, ISR, end. The leader comes as the byte that stands for it.
+pub fn put_head(out: &mut [u8], at: usize, p: Replica, leader: u8) -> usize
+    requires { ⌜ at + length (replicaHeadBy p leader) ≤ length (now out) ⌝ }
+    ensures { λ n. ⌜ Stored (now (out .entry)) at (replicaHeadBy p leader) (now (out .exit)) n ⌝ }
+{
+    let epoch = parts::epoch_byte(p.epoch);
+    out[at] = p.hw;
+    out[at + 1] = epoch;
+    out[at + 2] = leader;
+    out[at + 3] = p.isr;
+    out[at + 4] = p.end;
+    at + REPLICA_WIDTH
+}
+
 // A replica: hw, epoch, leader, ISR, end, and its log.
 fn put_replica(out: &mut [u8], at: usize, p: Replica) -> usize
     requires { ⌜ p .end ≤ 16 ⌝ }
     requires { ⌜ at + length (replicaBytes p) ≤ length (now out) ⌝ }
     ensures { λ n. ⌜ Stored (now (out .entry)) at (replicaBytes p) (now (out .exit)) n ⌝ }
 {
-    let epoch = parts::epoch_byte(p.epoch);
     let l = p.leader;
-    let leader = l.byte();
-    out[at] = p.hw;
-    out[at + 1] = epoch;
-    out[at + 2] = leader;
-    out[at + 3] = p.isr;
-    out[at + 4] = p.end;
-    put_log(&mut out[..], at + REPLICA_WIDTH, p)
+    let log = put_head(&mut out[..], at, p, l.byte());
+    put_log(&mut out[..], log, p, p.end as usize)
 }
 
 // The replicas 0 to R-1.

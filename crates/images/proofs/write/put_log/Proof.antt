@@ -3,18 +3,15 @@ use native.Mathlib.Omega.{arith}
 use borrow.Author.Needs.{needs}
 use Rattle.logic.specs.Concat.{concatBelow}
 use Rattle.logic.specs.Stores.{Stored, stored-length, storing-start, storing-room, storing-more, storing-end}
-use Rattle.images.specs.Image.{recordBytesAt, logBytes}
+use Rattle.images.specs.Image.{recordBytesAt}
 use Rattle.images.proofs.write.put_log.Statement.{statement}
 use Rattle.images.proofs.write.put_log.Tie as tie
 
 abbrev Inv-loop : tie.InvT-loop
-Inv-loop out₀ at p end x₀ pos₀ out x pos = (x ≤ end) × Stored out₀ at (concatBelow x (recordBytesAt p)) out pos
+Inv-loop out₀ at count p x₀ pos₀ out x pos = (x ≤ count) × Stored out₀ at (concatBelow x (recordBytesAt p)) out pos
 
 abbrev μ-loop : tie.MeasureT-loop
-μ-loop out₀ at p end x₀ pos₀ out x pos = end - x
-
-cast-end : tie.Need-cast-end Inv-loop μ-loop
-cast-end c = search needs
+μ-loop out₀ at count p x₀ pos₀ out x pos = count - x
 
 loop-holds : tie.Need-loop-holds Inv-loop μ-loop
 loop-holds c = (omega arith, storing-start _ _ _)
@@ -26,11 +23,10 @@ element-copy-out-r : tie.Need-element-copy-out-r Inv-loop μ-loop
 element-copy-out-r c = search needs
 
 put-record-requires : tie.Need-put-record-requires Inv-loop μ-loop
-unfolding logBytes
 put-record-requires c κs =
     let a = c .before .before .before .before .before .args in
     let l = c .before .before .before .loop in
-    storing-room (recordBytesAt (a .t3)) (l .x) (a .t3 .end) (omega arith) (l .inv .1) (omega arith)
+    storing-room (recordBytesAt (a .t3)) (l .x) (a .count) (omega arith) (l .inv .1) (omega arith)
 
 add-x : tie.Need-add-x Inv-loop μ-loop
 add-x c = search needs
@@ -48,11 +44,10 @@ same-length : tie.Need-same-length Inv-loop μ-loop
 same-length c = stored-length (c .before .loop .inv .1)
 
 returns : tie.Need-returns Inv-loop μ-loop
-unfolding logBytes
 returns c =
     let a = c .before .before .before .args in
     let l = c .before .loop in
-    storing-end (recordBytesAt (a .t3)) (l .x) (a .t3 .end) (l .inv .0) (omega arith) (l .inv .1)
+    storing-end (recordBytesAt (a .t3)) (l .x) (a .count) (l .inv .0) (omega arith) (l .inv .1)
 
 pub put-log-spec : {M : Type 1} → statement M
 put-log-spec =
@@ -60,7 +55,6 @@ put-log-spec =
     (tie.spec
     Inv-loop
     μ-loop
-    cast-end
     loop-holds
     mul-r
     element-copy-out-r
