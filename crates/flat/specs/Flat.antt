@@ -1,0 +1,130 @@
+-- The flat form of a state, in which it crosses the C interface. "A flat state is 226 bytes: R, L, M, X, next epoch, next id,
+-- quorum epoch, quorum leader, quorum ISR; 16 times (leader, ISR); 5 times (hw, epoch, leader, ISR, end, 16 times (id, epoch)).
+-- Quorum, replica and record epochs are two's complement bytes; next epoch is unsigned; a leader is 0 for none and i + 1 for
+-- replica i". Unused room is part of it. Assumes nothing.
+use Prim.Native.Nat.{ℕ, zero, suc, _+_, _*_}
+use mathlib.Core.Bool.{cond}
+use mathlib.Core.List.{List, [], _∷_, _++_}
+use lib.Dec.{ltb}
+use lib.ListN.{drop}
+use Rattle.logic.specs.Table.{table}
+use Rattle.logic.specs.Concat.{concatBelow}
+use Rattle.parts.specs.declared.Leader.{Leader}
+use Rattle.parts.specs.declared.Leader.the-variants.{None, Broker}
+use Rattle.parts.specs.Epoch.{epochByte, epochOfByte}
+use Rattle.parts.specs.Mark.{byteAt}
+use Rattle.replica.specs.declared.Record.{Record}
+use Rattle.replica.specs.declared.Replica.{Replica}
+use Rattle.replica.specs.Replica.{replicaOf}
+use Rattle.cluster.specs.declared.Limits.{Limits}
+use Rattle.cluster.specs.declared.Quorum.{Quorum}
+use Rattle.cluster.specs.declared.Request.{Request}
+use Rattle.cluster.specs.declared.State.{State}
+use Rattle.cluster.specs.State.{replicaCount, logSize, maxRecords, maxLeaderEpoch, nextLeaderEpoch, nextRecordId, requestAt, replicaAt, stateOf}
+use Rattle.images.specs.Image.{recordBytesAt, replicaHeadBy}
+use Rattle.images.specs.Read.{recordOf}
+
+-- ---- how many bytes the state, its first part, a request, a replica, a replica without its log, and a record have
+abbrev pub flatWidth : ℕ
+flatWidth = 226
+
+abbrev pub headerWidth : ℕ
+headerWidth = 9
+
+abbrev pub requestWidth : ℕ
+requestWidth = 2
+
+abbrev pub replicaWidth : ℕ
+replicaWidth = 37
+
+abbrev pub headWidth : ℕ
+headWidth = 5
+
+abbrev pub recordWidth : ℕ
+recordWidth = 2
+
+-- where the replicas start: behind the first part and 16 requests
+abbrev pub replicasAt : ℕ
+replicasAt = 41
+
+-- ---- leaders
+-- "a leader is 0 for none and i + 1 for replica i". Replica 255 has no byte, and no state that is read or answered names it;
+-- it is written as none.
+unfoldable pub flatLeader : Leader → ℕ
+flatLeader None = 0
+flatLeader (Broker i) = cond (ltb i 255) (i + 1) 0
+
+-- the leader of a byte; "255 is replica 254"
+unfoldable pub leaderOfFlat : ℕ → Leader
+leaderOfFlat zero = None
+leaderOfFlat (suc i) = Broker i
+
+-- ---- the bytes of a state
+-- "(leader, ISR)"
+abbrev pub flatRequest : Request → List ℕ
+flatRequest q = flatLeader (q .leader) ∷ q .isr ∷ []
+
+-- the request of epoch e
+abbrev pub flatRequestAt : State → ℕ → List ℕ
+flatRequestAt s e = flatRequest (requestAt s e)
+
+-- "(hw, epoch, leader, ISR, end, 16 times (id, epoch))"
+abbrev pub flatReplica : Replica → List ℕ
+flatReplica p = replicaHeadBy p (flatLeader (p .leader)) ++ concatBelow 16 (recordBytesAt p)
+
+-- the replica named i
+abbrev pub flatReplicaAt : State → ℕ → List ℕ
+flatReplicaAt s i = flatReplica (replicaAt s i)
+
+-- "R, L, M, X, next epoch, next id, quorum epoch, quorum leader, quorum ISR"
+abbrev pub flatHeader : State → List ℕ
+flatHeader s =
+    replicaCount (s .limits)
+    ∷ logSize (s .limits)
+    ∷ maxRecords (s .limits)
+    ∷ maxLeaderEpoch (s .limits)
+    ∷ nextLeaderEpoch s
+    ∷ nextRecordId s
+    ∷ epochByte (s .quorum .epoch)
+    ∷ flatLeader (s .quorum .leader)
+    ∷ s .quorum .isr
+    ∷ []
+
+unfoldable pub flat : State → List ℕ
+flat s = flatHeader s ++ (concatBelow 16 (flatRequestAt s) ++ concatBelow 5 (flatReplicaAt s))
+
+-- ---- the state of such bytes
+abbrev pub requestOfFlat : List ℕ → Request
+requestOfFlat bs = record { leader = leaderOfFlat (byteAt bs 0); isr = byteAt bs 1 }
+
+-- the record at offset x, behind the replica's first five bytes
+abbrev pub recordOfFlat : List ℕ → ℕ → Record
+recordOfFlat bs x = recordOf (drop (headWidth + recordWidth * x) bs)
+
+abbrev pub replicaOfFlat : List ℕ → Replica
+replicaOfFlat bs =
+    replicaOf (byteAt bs 0) (epochOfByte (byteAt bs 1)) (leaderOfFlat (byteAt bs 2)) (byteAt bs 3) (byteAt bs 4)
+    (table 16 (recordOfFlat bs))
+
+abbrev pub limitsOfFlat : List ℕ → Limits
+limitsOfFlat bs =
+    record {
+      «replica_count» = byteAt bs 0;
+      «log_size» = byteAt bs 1;
+      «max_records» = byteAt bs 2;
+      «max_leader_epoch» = byteAt bs 3;
+    }
+
+abbrev pub quorumOfFlat : List ℕ → Quorum
+quorumOfFlat bs = record { epoch = epochOfByte (byteAt bs 6); leader = leaderOfFlat (byteAt bs 7); isr = byteAt bs 8 }
+
+-- the request of epoch e, and the replica named i
+abbrev pub requestOfFlatAt : List ℕ → ℕ → Request
+requestOfFlatAt bs e = requestOfFlat (drop (headerWidth + requestWidth * e) bs)
+
+abbrev pub replicaOfFlatAt : List ℕ → ℕ → Replica
+replicaOfFlatAt bs i = replicaOfFlat (drop (replicasAt + replicaWidth * i) bs)
+
+unfoldable pub stateOfFlat : List ℕ → State
+stateOfFlat bs =
+    stateOf (limitsOfFlat bs) (byteAt bs 4) (byteAt bs 5) (quorumOfFlat bs) (table 16 (requestOfFlatAt bs)) (table 5 (replicaOfFlatAt bs))
