@@ -1,0 +1,50 @@
+use mathlib.Core.Path.{sym, _∙_, ap}
+use native.Mathlib.Omega.{arith}
+use borrow.Author.Needs.{needs}
+use Rattle.cluster.specs.declared.State.{State}
+use Rattle.representatives.specs.Representative.{represent}
+use Rattle.replay.specs.Interface.{stateReply, replayRepresentative}
+use Rattle.replay.specs.InterfaceLaws.{width-right, on-state-replies, on-state-refused}
+use Rattle.replay.proofs.replay_representative.Statement.{statement}
+use Rattle.replay.proofs.replay_representative.Tie as tie
+
+width-refusal-requires : tie.Need-width-refusal-requires
+width-refusal-requires c κs = search needs
+
+returns : tie.Need-returns
+unfolding replayRepresentative
+returns c = on-state-refused _ _ _ _ (c .before .width-refusal .ensures) (c .if1 .taken)
+
+state-of-requires : tie.Need-state-of-requires
+state-of-requires c κs =
+    let w = width-right _ (sym (c .before .width-refusal .ensures) ∙ c .if1 .left) in
+    omega (arith, w)
+
+representative-requires : tie.Need-representative-requires
+representative-requires c κs = search needs
+
+give-state-requires : tie.Need-give-state-requires
+give-state-requires c κs = search needs
+
+same-length : tie.Need-same-length
+same-length c = search needs
+
+returns-2 : tie.Need-returns-2
+unfolding replayRepresentative
+returns-2 c =
+    let a = c .before .before .before .before .before .before .before .before .before .before .args in
+    on-state-replies (a .state .now) (λ (s : State). stateReply (represent s)) _ _ _ _ (sym (c .before .before .before .before .before .before .before .width-refusal .ensures) ∙ c .before .before .before .before .before .before .if1 .left)
+    (ap stateReply (c .before .before .before .before .representative .ensures ∙ ap (λ (s : State). represent s) (c .before .before .before .before .before .state-of .ensures)))
+    (c .before .before .give-state .ensures)
+
+pub replay-representative-spec : {M : Type 1} → statement M
+replay-representative-spec =
+    tie.close
+    (tie.spec
+    width-refusal-requires
+    returns
+    state-of-requires
+    representative-requires
+    give-state-requires
+    same-length
+    returns-2)

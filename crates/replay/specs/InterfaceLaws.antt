@@ -1,0 +1,170 @@
+-- Laws of the interface, for its functions. Assumes nothing.
+use Prim.Native.Nat.{ℕ, zero, suc, _+_, _*_, _≤_, _<_}
+use mathlib.Core.Path.{_≡_, refl, sym, _∙_, ap, subst}
+use mathlib.Core.Bool.{Bool, true, false, not}
+use mathlib.Core.List.{List, [], _∷_, _++_}
+use native.Mathlib.Omega.{arith}
+use native.Mathlib.Decide.{decLt}
+use lib.Dec.{ltb}
+use lib.ListN.{length, drop, getD}
+use mir.Val.{boolByte}
+use borrow.Author.Tests.{lt-ltb, le-ltb, ltb-false, eq-eqb, ne-eqb}
+use Rattle.logic.specs.Refuse.{refuse-yes, refuse-no, refuse-zero}
+use Rattle.logic.specs.Stores.{Stored, stored-front}
+use Rattle.logic.specs.Table.{table, tableFrom, ext-table, cond-true, cond-false}
+use Rattle.parts.specs.Refusal.{accepted, brokenState, bufferShort, notRenaming}
+use Rattle.parts.specs.Isr.{bit}
+use Rattle.cluster.specs.declared.State.{State}
+use Rattle.cluster.specs.Rules.{rules, stateRefusal}
+use Rattle.cluster.specs.RuleLaws.{refusal-broken}
+use Rattle.cluster.specs.Fresh.{answer}
+use Rattle.renamings.specs.Rename.{rename}
+use Rattle.images.specs.Image.{image, writeImage, bufferAfter}
+use Rattle.images.specs.ImageLaws.{image-most}
+use Rattle.images.specs.WriteLaws.{writes-broken, writes-short, writes-all}
+use Rattle.runs.specs.declared.Verdict.{Verdict}
+use Rattle.flat.specs.Flat.{flatWidth, flat, stateOfFlat}
+use Rattle.flat.specs.FlatLaws.{flat-width}
+use Rattle.replay.specs.Interface.{Reply, refuses, gives, number, outAfter, lengthWritten, Replies, replyBy, imageReply, renameBy, widthRefusal, onState, numberAndLength, threeNumbers, verdictWidth, numberBytes, verdictBytes}
+
+-- ---- replies
+-- the answer's own number refuses
+pub replies-refused : (n : ℕ) (reply : Reply) (out : List ℕ) → (n ≡ accepted → ⊥) → Replies (replyBy n reply) out n out
+unfolding replyBy number outAfter
+replies-refused zero reply out h = absurd (h refl)
+replies-refused (suc n) reply out h = (refl, refl)
+
+-- it does not
+pub reply-accepted : (n : ℕ) (reply : Reply) → n ≡ accepted → reply ≡ replyBy n reply
+unfolding replyBy
+reply-accepted n reply h = rw h
+
+-- the buffer is short, or holds the answer
+module _ (n : ℕ) (bytes out : List ℕ) (h : n ≡ accepted) where
+  pub replies-short : length out < length bytes → Replies (replyBy n (gives bytes)) out bufferShort out
+  unfolding number outAfter
+  replies-short k =
+      rw (← reply-accepted n (gives bytes) h)
+      (sym (cond-true _ _ _ (lt-ltb (length out) (length bytes) k)), sym (cond-true _ _ _ (lt-ltb (length out) (length bytes) k)))
+
+  pub replies-given : (after : List ℕ) (end : ℕ) → Stored out 0 bytes after end → length bytes ≤ length out
+      → Replies (replyBy n (gives bytes)) out accepted after
+  unfolding number outAfter
+  replies-given after end w k =
+      rw (← reply-accepted n (gives bytes) h)
+      (sym (cond-false _ _ _ (le-ltb (length out) (length bytes) k)), stored-front w k ∙ sym (cond-false _ _ _ (le-ltb (length out) (length bytes) k)))
+
+-- ---- a state that comes as bytes
+-- it has 226
+pub width-right : (state : List ℕ) → widthRefusal state ≡ accepted → length state ≡ flatWidth
+unfolding widthRefusal
+width-right state h =
+    let a = refuse-zero (ltb (length state) flatWidth) 20 _ h in
+    let b = refuse-zero (ltb flatWidth (length state)) 22 _ (a .1) in
+    let l = ltb-false (length state) flatWidth (a .0) in
+    let m = ltb-false flatWidth (length state) (b .0) in
+    omega arith
+
+-- the reply is that of its state
+pub on-state : (state : List ℕ) (reply : State → Reply) → widthRefusal state ≡ accepted → reply (stateOfFlat state) ≡ onState state reply
+unfolding onState
+on-state state reply h = reply-accepted (widthRefusal state) (reply (stateOfFlat state)) h
+
+pub on-state-replies : (state : List ℕ) (reply : State → Reply) (given : Reply) (out : List ℕ) (n : ℕ) (after : List ℕ)
+    → widthRefusal state ≡ accepted → given ≡ reply (stateOfFlat state) → Replies given out n after → Replies (onState state reply) out n after
+on-state-replies state reply given out n after h e r = subst (λ (m : Reply). Replies m out n after) (e ∙ on-state state reply h) r
+
+-- it has not
+pub on-state-refused : (state : List ℕ) (reply : State → Reply) (out : List ℕ) (n : ℕ) → n ≡ widthRefusal state → (n ≡ accepted → ⊥)
+    → Replies (onState state reply) out n out
+unfolding onState
+on-state-refused state reply out n e h = rw e (replies-refused (widthRefusal state) (reply (stateOfFlat state)) out (λ z. h (e ∙ z)))
+
+-- such an answer has no length
+alone : (n : ℕ) (reply : Reply) (out : List ℕ) → (n ≡ accepted → ⊥) → n ≡ numberAndLength (replyBy n reply) out
+unfolding replyBy numberAndLength number lengthWritten
+alone zero reply out h = absurd (h refl)
+alone (suc n) reply out h = omega arith
+
+pub on-state-alone : (state : List ℕ) (reply : State → Reply) (out : List ℕ) (n : ℕ) → n ≡ widthRefusal state → (n ≡ accepted → ⊥)
+    → n ≡ numberAndLength (onState state reply) out
+unfolding onState
+on-state-alone state reply out n e h = rw e (alone (widthRefusal state) (reply (stateOfFlat state)) out (λ z. h (e ∙ z)))
+
+-- ---- places that come as bytes
+pub five-places : (l : List ℕ) → length l ≡ 5 → getD l 0 0 ∷ getD l 1 0 ∷ getD l 2 0 ∷ getD l 3 0 ∷ getD l 4 0 ∷ [] ≡ l
+unfolding table tableFrom
+five-places l h = sym (ext-table 0 5 (λ i. getD l i 0) l h (λ i b. refl))
+
+module _ (s : State) (places : List ℕ) where
+  pub rename-five : length places ≡ 5 → rename s places ≡ renameBy s places
+  unfolding renameBy
+  rename-five h = sym (cond-true _ _ _ (eq-eqb (length places) 5 h))
+
+  pub rename-uncounted-broken : (length places ≡ 5 → ⊥) → (stateRefusal s ≡ accepted → ⊥) → answer (stateRefusal s) s ≡ renameBy s places
+  unfolding renameBy
+  rename-uncounted-broken h k =
+      let p = refusal-broken s k in
+      ap (λ (n : ℕ). answer n s) (p .1 ∙ refuse-yes (not (rules s)) brokenState notRenaming (ap not (p .0)))
+      ∙ sym (cond-false _ _ _ (ne-eqb (length places) 5 h))
+
+  pub rename-uncounted : (length places ≡ 5 → ⊥) → rules s ≡ true → answer notRenaming s ≡ renameBy s places
+  unfolding renameBy
+  rename-uncounted h k =
+      ap (λ (n : ℕ). answer n s) (refuse-no (not (rules s)) brokenState notRenaming (ap not k))
+      ∙ sym (cond-false _ _ _ (ne-eqb (length places) 5 h))
+
+-- ---- weak and strong ISR
+-- whether one holds, as a byte
+pub bool-byte : (b : Bool) → boolByte b ≡ bit b
+bool-byte true = refl
+bool-byte false = refl
+
+-- ---- images
+-- what is written of an image, and its length, which is small
+pub record ImageReplies (s : State) (out : List ℕ) : Type 0 where
+  pub small : writeImage s out .length ≤ 227
+  pub few : writeImage s out .refusal ≤ 24
+  pub answer : writeImage s out .refusal + 256 * writeImage s out .length ≡ numberAndLength (imageReply s) out
+  pub after : bufferAfter s out ≡ outAfter (imageReply s) out
+
+pub image-replies : (s : State) (out : List ℕ) → ImageReplies s out
+unfolding imageReply numberAndLength number lengthWritten outAfter
+image-replies s out = go (rules s) refl
+  where
+    go : (b : Bool) → rules s ≡ b → ImageReplies s out
+    go false h =
+        let w = writes-broken s out h in
+        record {
+          small = rw (← (w .0)) (omega arith);
+          few = rw (← (w .0)) (omega arith);
+          answer = rw (← (w .0), h) refl;
+          after = rw (← (w .1), h) refl;
+        }
+    go true h =
+        elim (decLt (length out) (length (image s))) [
+          | yes l ↦
+              let w = writes-short s out h l in
+              let t = lt-ltb (length out) (length (image s)) l in
+              record {
+                small = rw (← (w .0)) (omega arith);
+                few = rw (← (w .0)) (omega arith);
+                answer = rw (← (w .0), h, t) refl;
+                after = rw (← (w .1), h, t) refl;
+              }
+          | no l ↦
+              let k : length (image s) ≤ length out = omega arith in
+              let w = writes-all s out h k in
+              let t = le-ltb (length out) (length (image s)) k in
+              record {
+                small = rw (← (w .0)) (image-most s h);
+                few = rw (← (w .0)) (omega arith);
+                answer = rw (← (w .0), h, t) refl;
+                after = rw (← (w .1), h, t) refl;
+              }
+        ]
+
+-- ---- verdicts
+pub verdict-width : (v : Verdict) → length (verdictBytes v) ≡ verdictWidth
+unfolding verdictBytes numberBytes
+verdict-width v = let e = flat-width (v .state) in omega arith

@@ -1,0 +1,114 @@
+// What an answer puts at the front of the buffer: nothing where it is refused or the buffer is too short.
+ghost use mathlib.Core.Path.{_≡_};
+ghost use Prim.Native.Nat.{_+_, _≤_};
+ghost use lib.ListN.{length};
+ghost use Rattle.logic.specs.Stores.{Stored};
+ghost use Rattle.replay.specs.Interface.{Reply, Replies, gives, stateReply, isrReply, offerReply, numberBytes, threeNumbers, verdictWidth, verdictBytes};
+use cluster::Outcome;
+use flat::WIDTH;
+use flat::write::put_state;
+use images::write::put_pair;
+use parts::refusal::ACCEPTED;
+use parts::refusal::BUFFER_SHORT;
+use questions::IsrAnswer;
+use questions::OfferAnswer;
+use runs::Verdict;
+
+// How many bytes an answer on weak or strong ISR, an offer and a verdict have.
+const ISR_WIDTH: usize = 4;
+
+const OFFER_WIDTH: usize = 3;
+
+const VERDICT_WIDTH: usize = 250;
+
+// A state.
+pub(crate) fn give_state(answer: Outcome, out: &mut [u8]) -> u8
+    ensures { λ n. ⌜ Replies (stateReply answer) (now (out .entry)) n (now (out .exit)) ⌝ }
+{
+    if answer.refusal != ACCEPTED {
+        return answer.refusal;
+    }
+    if out.len() < WIDTH {
+        return BUFFER_SHORT;
+    }
+    put_state(&mut out[..], 0, answer.state);
+    ACCEPTED
+}
+
+// Weak or strong ISR: 1 and zeros where it holds, else 0, leader, member and offset.
+pub(crate) fn give_isr(answer: IsrAnswer, out: &mut [u8]) -> u8
+    ensures { λ n. ⌜ Replies (isrReply answer) (now (out .entry)) n (now (out .exit)) ⌝ }
+{
+    if answer.refusal != ACCEPTED {
+        return answer.refusal;
+    }
+    if out.len() < ISR_WIDTH {
+        return BUFFER_SHORT;
+    }
+    out[0] = answer.holds as u8;
+    out[1] = answer.leader;
+    out[2] = answer.member;
+    out[3] = answer.offset;
+    ACCEPTED
+}
+
+// An offer: its operands.
+pub(crate) fn give_offer(answer: OfferAnswer, out: &mut [u8]) -> u8
+    ensures { λ n. ⌜ Replies (offerReply answer) (now (out .entry)) n (now (out .exit)) ⌝ }
+{
+    if answer.refusal != ACCEPTED {
+        return answer.refusal;
+    }
+    if out.len() < OFFER_WIDTH {
+        return BUFFER_SHORT;
+    }
+    out[0] = answer.a;
+    out[1] = answer.b;
+    out[2] = answer.e;
+    ACCEPTED
+}
+
+// A number, low byte first. The caller shows that the buffer has room for four bytes.
+fn put_number(out: &mut [u8], at: usize, n: usize) -> usize
+    requires { ⌜ at + 4 ≤ length (now out) ⌝ }
+    ensures { λ r. ⌜ Stored (now (out .entry)) at (numberBytes n) (now (out .exit)) r ⌝ }
+{
+    let high = put_pair(&mut out[..], at, (n % 256) as u8, (n / 256 % 256) as u8);
+    put_pair(
+        &mut out[..],
+        high,
+        (n / 65536 % 256) as u8,
+        (n / 16777216 % 256) as u8,
+    )
+}
+
+// Three numbers. The caller shows that the buffer has room for twelve bytes.
+fn put_three(out: &mut [u8], at: usize, m: usize, n: usize, k: usize) -> usize
+    requires { ⌜ at + 12 ≤ length (now out) ⌝ }
+    ensures { λ r. ⌜ Stored (now (out .entry)) at (threeNumbers m n k) (now (out .exit)) r ⌝ }
+{
+    let second = put_number(&mut out[..], at, m);
+    let third = put_number(&mut out[..], second, n);
+    put_number(&mut out[..], third, k)
+}
+
+// The six numbers of a verdict and its state. The caller shows that the buffer has room for them.
+fn put_verdict(out: &mut [u8], v: Verdict) -> usize
+    requires { ⌜ verdictWidth ≤ length (now out) ⌝ }
+    ensures { λ r. ⌜ Stored (now (out .entry)) 0 (verdictBytes v) (now (out .exit)) r ⌝ }
+{
+    let weak = put_three(&mut out[..], 0, v.accepted, v.refusal as usize, v.at);
+    let state = put_three(&mut out[..], weak, v.weak, v.strong, v.exposed as usize);
+    put_state(&mut out[..], state, v.state)
+}
+
+// A verdict.
+pub(crate) fn give_verdict(v: Verdict, out: &mut [u8]) -> u8
+    ensures { λ n. ⌜ Replies (gives (verdictBytes v)) (now (out .entry)) n (now (out .exit)) ⌝ }
+{
+    if out.len() < VERDICT_WIDTH {
+        return BUFFER_SHORT;
+    }
+    put_verdict(&mut out[..], v);
+    ACCEPTED
+}
