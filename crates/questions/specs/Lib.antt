@@ -4,3 +4,4 @@ pub mod OfferLaws
 pub mod IsrTheorems
 pub mod OfferTheorems
 pub mod Exposed
+pub mod IsrLaws

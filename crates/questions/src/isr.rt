@@ -1,48 +1,40 @@
-// What weak and strong ISR ask of a leader and a member, and what a leader exposes.
+// What weak and strong ISR ask of a leader and a member, and what a leader exposes. Each function takes the few numbers that it
+// needs and no state, since it is called in loops.
 ghost use mathlib.Core.Path.{_≡_};
-ghost use Prim.Native.Nat.{_<_};
-ghost use Rattle.questions.specs.Isr.{isrAsked, offsetsAsked};
-ghost use Rattle.questions.specs.Exposed.{presumingHw};
+ghost use mathlib.Core.Bool.{cond};
+ghost use Rattle.parts.specs.Isr.{member};
+ghost use Rattle.parts.specs.Leader.{names};
+ghost use Rattle.questions.specs.IsrLaws.{isrOf};
 use crate::Property;
-use cluster::State;
+use parts::Leader;
 
-// The ISR whose members are asked about: the leader's own, or the quorum's. The caller shows that the array has the leader.
-fn isr_asked(property: Property, s: State, leader: u8) -> u8
-    requires { ⌜ leader < 5 ⌝ }
-    ensures { λ r. ⌜ r ≡ isrAsked property s leader ⌝ }
+// The ISR whose members are asked about: the leader's own, or the quorum's.
+pub(crate) fn isr_asked(property: Property, own: u8, quorum: u8) -> u8
+    ensures { λ isr. ⌜ isr ≡ isrOf property own quorum ⌝ }
 {
-    let p = s.replica_at(leader);
-    let q = s.quorum;
     match property {
-        Property::WeakIsr => p.isr,
-        Property::StrongIsr => q.isr,
+        Property::WeakIsr => own,
+        Property::StrongIsr => quorum,
     }
 }
 
-// How many offsets of a leader and a member are compared: those below the leader's high watermark, where it presumes and
-// the member is in the ISR asked about; else none. The caller shows that the array has the leader.
-pub(crate) fn offsets_asked(property: Property, s: State, leader: u8, member: u8) -> u8
-    requires { ⌜ leader < 5 ⌝ }
-    ensures { λ r. ⌜ r ≡ offsetsAsked property s leader member ⌝ }
+// A number where replica r presumes leadership, which it does where its own leader is r; else 0.
+pub(crate) fn where_presuming(leader: Leader, r: u8, number: u8) -> u8
+    ensures { λ n. ⌜ n ≡ cond (names leader r) number 0 ⌝ }
 {
-    if s.replica_presumes_leadership(leader) {
-        let isr = isr_asked(property, s, leader);
-        if parts::is_member(isr, member) {
-            let p = s.replica_at(leader);
-            return p.hw;
-        }
+    if leader.names(r) {
+        return number;
     }
     0
 }
 
-// The high watermark of a replica that presumes leadership, else 0. The caller shows that the array has the replica.
-pub(crate) fn presuming_hw(s: State, r: u8) -> u8
-    requires { ⌜ r < 5 ⌝ }
-    ensures { λ hw. ⌜ hw ≡ presumingHw s r ⌝ }
+// How many offsets of a leader and replica m are compared: those below the leader's high watermark, where m is in the ISR
+// asked about; else none.
+pub(crate) fn offsets_asked(isr: u8, m: u8, hw: u8) -> u8
+    ensures { λ n. ⌜ n ≡ cond (member isr m) hw 0 ⌝ }
 {
-    if s.replica_presumes_leadership(r) {
-        let p = s.replica_at(r);
-        return p.hw;
+    if parts::is_member(isr, m) {
+        return hw;
     }
     0
 }

@@ -5,7 +5,7 @@ mod search;
 ghost use mathlib.Core.Path.{_≡_};
 ghost use mathlib.Core.Bool.{true};
 ghost use Rattle.cluster.specs.Rules.{rules};
-ghost use Rattle.questions.specs.Isr.{checkIsr, askIsr, weakIsr, strongIsr};
+ghost use Rattle.questions.specs.Isr.{isrAnswer, checkIsr, askIsr, weakIsr, strongIsr};
 ghost use Rattle.questions.specs.Exposed.{exposed};
 ghost use Rattle.questions.specs.Offer.{offer};
 use cluster::Kind;
@@ -37,31 +37,47 @@ pub struct OfferAnswer {
     pub e: u8,
 }
 
+impl IsrAnswer {
+    // An answer that names no failure: a number, and whether the property holds.
+    fn with_zeros(refusal: u8, holds: bool) -> IsrAnswer
+        ensures { λ r. ⌜ r ≡ isrAnswer refusal holds 0 0 0 ⌝ }
+    {
+        IsrAnswer {
+            refusal: refusal,
+            holds: holds,
+            leader: 0,
+            member: 0,
+            offset: 0,
+        }
+    }
+}
+
 // What a property answers on a state that is known to meet the rules: they are not tested. The caller shows them. The answer
-// is that of `weak_isr` or `strong_isr`.
+// is that of `weak_isr` or `strong_isr`. What the inner loops need is taken out of the state before them: a leader that does not
+// presume has no members to look at, and a replica that is not in the ISR asked about has no offsets.
 pub fn check_isr(property: Property, s: State) -> IsrAnswer
     requires { ⌜ rules s ≡ true ⌝ }
     ensures { λ r. ⌜ r ≡ checkIsr property s ⌝ }
 {
     let c = s.limits;
     let n = c.replica_count;
-    let mut answer = IsrAnswer {
-        refusal: ACCEPTED,
-        holds: true,
-        leader: 0,
-        member: 0,
-        offset: 0,
-    };
+    let quorum = s.quorum;
+    let mut answer = IsrAnswer::with_zeros(ACCEPTED, true);
     let mut r: u8 = 0;
     'leaders: while r < n {
-        let p = s.replica_at(r);
+        let p = s.replicas[r as usize];
+        let leader = p.leader;
+        let isr = isr::isr_asked(property, p.isr, quorum.isr);
+        let members = isr::where_presuming(leader, r, n);
         let mut m: u8 = 0;
-        while m < n {
-            let q = s.replica_at(m);
-            let offsets = isr::offsets_asked(property, s, r, m);
+        while m < members {
+            let q = s.replicas[m as usize];
+            let offsets = isr::offsets_asked(isr, m, p.hw);
             let mut x: u8 = 0;
             while x < offsets {
-                if !p.holds_same_record(q, x) {
+                let own = p.log[x as usize];
+                let other = q.log[x as usize];
+                if !own.same_below_ends(other, x, p.end, q.end) {
                     answer.holds = false;
                     answer.leader = r;
                     answer.member = m;
@@ -85,13 +101,7 @@ fn ask_isr(property: Property, s: State) -> IsrAnswer
     if refusal == ACCEPTED {
         return check_isr(property, s);
     }
-    IsrAnswer {
-        refusal: refusal,
-        holds: false,
-        leader: 0,
-        member: 0,
-        offset: 0,
-    }
+    IsrAnswer::with_zeros(refusal, false)
 }
 
 // Weak ISR: each presuming replica and each member of its own ISR hold the same records below that replica's high
@@ -121,7 +131,9 @@ pub fn exposed(s: State) -> u8
     let mut most: u8 = 0;
     let mut r: u8 = 0;
     while r < n {
-        most = parts::larger(isr::presuming_hw(s, r), most);
+        let p = s.replicas[r as usize];
+        let leader = p.leader;
+        most = parts::larger(isr::where_presuming(leader, r, p.hw), most);
         r = r + 1;
     }
     most

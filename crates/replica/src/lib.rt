@@ -1,10 +1,12 @@
 // One replica and its log of records.
 ghost use mathlib.Core.Path.{_≡_};
 ghost use mathlib.Core.Bool.{cond};
+ghost use mathlib.Core.List.{[], _∷_};
 ghost use Prim.Native.Nat.{_≤_, _<_};
 ghost use lib.Dec.{ltb};
+ghost use Rattle.logic.specs.Tests.{every};
 ghost use Rattle.replica.specs.Replica.{zeroRecord, zeroReplica, recordAt, tidyReplica};
-ghost use Rattle.replica.specs.Log.{recordInUse, logInUse, recordsAgree, recordAgrees, logsAgree, sameRecord, holdSameRecord};
+ghost use Rattle.replica.specs.Log.{recordInUse, logInUse, recordsAgree, recordAgrees, logsAgree, sameRecord};
 ghost use Rattle.replica.specs.Change.{withHw, withIsr, withRequest, append, truncateTo, truncateUnder, becomeFollowerAndTruncateTo};
 use parts::Leader;
 
@@ -54,6 +56,20 @@ impl Record {
             return parts::same_epoch(self.epoch, other.epoch);
         }
         false
+    }
+
+    // Whether two logs hold the same record at offset x: both have it, and id and epoch agree. This one and the other are what
+    // stands at x in the two arrays; the logs have these records where x is below their ends.
+    pub fn same_below_ends(self, other: Record, x: u8, end: u8, other_end: u8) -> bool
+        ensures { λ r. ⌜ r ≡ every (ltb x end ∷ ltb x «other_end» ∷ sameRecord self other ∷ []) ⌝ }
+    {
+        if end <= x {
+            return false;
+        }
+        if other_end <= x {
+            return false;
+        }
+        self.same(other)
     }
 
     // Rule S7 of this record at offset x and another at offset y.
@@ -154,23 +170,6 @@ impl Replica {
             }
         }
         true
-    }
-
-    // Whether two logs hold the same record at an offset: both have it, and id and epoch agree. The caller shows that the
-    // end of the first is in its array.
-    pub fn holds_same_record(self, other: Replica, x: u8) -> bool
-        requires { ⌜ self .end ≤ 16 ⌝ }
-        ensures { λ r. ⌜ r ≡ holdSameRecord self other x ⌝ }
-    {
-        if self.end <= x {
-            return false;
-        }
-        if other.end <= x {
-            return false;
-        }
-        let r = self.record_at(x);
-        let q = other.record_at(x);
-        r.same(q)
     }
 
     // The record at an offset. The caller shows that the offset is in the array.

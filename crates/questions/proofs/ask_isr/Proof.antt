@@ -18,11 +18,14 @@ returns : tie.Need-returns
 unfolding askIsr
 returns c = c .check-isr .ensures ∙ sym (cond-true _ _ _ (refusal-met _ (sym (c .before .before .state-refusal .ensures) ∙ c .before .if1 .taken)))
 
+with-zeros-requires : tie.Need-with-zeros-requires
+with-zeros-requires c κs = search needs
+
 returns-2 : tie.Need-returns-2
 unfolding askIsr
 returns-2 c =
-    let p = refusal-broken (c .before .before .args .s) (λ e. c .if1 .left (c .before .state-refusal .ensures ∙ e)) in
-    ap (λ (n : ℕ). isrAnswer n false 0 0 0) (c .before .state-refusal .ensures ∙ p .1) ∙ sym (cond-false _ _ _ (p .0))
+    let p = refusal-broken (c .before .before .before .args .s) (λ e. c .before .if1 .left (c .before .before .state-refusal .ensures ∙ e)) in
+    c .with-zeros .ensures ∙ ap (λ (n : ℕ). isrAnswer n false 0 0 0) (c .before .before .state-refusal .ensures ∙ p .1) ∙ sym (cond-false _ _ _ (p .0))
 
 pub ask-isr-spec : {M : Type 1} → statement M
-ask-isr-spec = tie.close (tie.spec state-refusal-requires check-isr-requires returns returns-2)
+ask-isr-spec = tie.close (tie.spec state-refusal-requires check-isr-requires returns with-zeros-requires returns-2)

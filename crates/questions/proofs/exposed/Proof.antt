@@ -4,6 +4,7 @@ use native.Mathlib.Omega.{arith}
 use borrow.Author.Needs.{needs}
 use Rattle.logic.specs.Greatest.{greatestBelow, greatest-none, greatest-more}
 use Rattle.cluster.specs.State.{replicaCount}
+use Rattle.cluster.specs.Actions.{replicaPresumesLeadership}
 use Rattle.cluster.specs.ActLaws.{replica-five}
 use Rattle.questions.specs.Exposed.{presumingHw, exposed}
 use Rattle.questions.proofs.exposed.Statement.{statement}
@@ -18,8 +19,17 @@ abbrev μ-loop : tie.MeasureT-loop
 loop-holds : tie.Need-loop-holds Inv-loop μ-loop
 loop-holds c = (omega arith, sym (greatest-none _))
 
-presuming-hw-requires : tie.Need-presuming-hw-requires Inv-loop μ-loop
-presuming-hw-requires c κs = replica-five (c .before .before .before .args .s) (search needs) _ (search needs)
+cast-p : tie.Need-cast-p Inv-loop μ-loop
+cast-p c = search needs
+
+mul-p : tie.Need-mul-p Inv-loop μ-loop
+mul-p c = search needs
+
+element-copy-out-p : tie.Need-element-copy-out-p Inv-loop μ-loop
+element-copy-out-p c = replica-five (c .before .before .before .args .t1) (search needs) _ (search needs)
+
+where-presuming-requires : tie.Need-where-presuming-requires Inv-loop μ-loop
+where-presuming-requires c κs = search needs
 
 larger-requires : tie.Need-larger-requires Inv-loop μ-loop
 larger-requires c κs = search needs
@@ -31,14 +41,15 @@ loop-less : tie.Need-loop-less Inv-loop μ-loop
 loop-less c = search needs
 
 loop-again : tie.Need-loop-again Inv-loop μ-loop
+unfolding replicaPresumesLeadership
 loop-again c =
-    let loop = c .before .before .before .loop in
-    (search needs, c .larger .ensures ∙ ap₂ max (c .before .presuming-hw .ensures) (loop .inv .1) ∙ greatest-more (loop .r) (presumingHw (c .before .before .before .before .before .args .s)))
+    let loop = c .before .before .before .before .loop in
+    (search needs, c .larger .ensures ∙ ap₂ max (c .before .where-presuming .ensures) (loop .inv .1) ∙ greatest-more (loop .r) (presumingHw (c .before .before .before .before .before .before .args .t1)))
 
 returns : tie.Need-returns Inv-loop μ-loop
 unfolding exposed
 returns c =
-    let s = c .before .before .before .args .s in
+    let s = c .before .before .before .args .t1 in
     let e : c .before .loop .r ≡ replicaCount (s .limits) = omega arith in
     c .before .loop .inv .1 ∙ ap (λ (k : ℕ). greatestBelow k (presumingHw s)) e
 
@@ -49,7 +60,10 @@ exposed-spec =
     Inv-loop
     μ-loop
     loop-holds
-    presuming-hw-requires
+    cast-p
+    mul-p
+    element-copy-out-p
+    where-presuming-requires
     larger-requires
     add-r
     loop-less
