@@ -1,7 +1,7 @@
 -- Laws of the flat form, for the functions that read and write it. Assumes nothing.
-use Prim.Native.Nat.{ℕ, zero, suc, _+_, _-_, _*_, _≤_}
+use Prim.Native.Nat.{ℕ, zero, suc, _+_, _-_, _*_}
 use mathlib.Core.Path.{_≡_, refl, sym, _∙_, ap}
-use mathlib.Core.List.{List, [], _∷_, _++_}
+use mathlib.Core.List.{List, [], _∷_}
 use native.Mathlib.Omega.{arith}
 use native.Mathlib.Numerals.{towards-suc}
 use lib.ListN.{length, drop, set, length-append}
@@ -12,9 +12,9 @@ use Rattle.parts.specs.declared.Leader.the-variants.{Broker}
 use Rattle.replica.specs.declared.Replica.{Replica}
 use Rattle.cluster.specs.declared.State.{State}
 use Rattle.cluster.specs.State.{replicaAt}
-use Rattle.images.specs.Image.{recordBytesAt, replicaHeadBy}
+use Rattle.images.specs.Image.{recordBytesAt}
 use Rattle.images.specs.Read.{recordOf}
-use Rattle.flat.specs.Flat.{headWidth, recordWidth, leaderOfFlat, flatRequestAt, flatReplica, flatReplicaAt, flatHeader, recordOfFlat, flat}
+use Rattle.flat.specs.Flat.{headWidth, recordWidth, leaderOfFlat, flatRequestAt, flatReplica, flatReplicaAt, recordOfFlat, flat}
 
 -- ---- reading
 pub leader-of-some : (b : ℕ) → (b ≡ 0 → ⊥) → Broker (b - 1) ≡ leaderOfFlat b

@@ -1,2 +1,3 @@
 pub mod Flat
 pub mod FlatLaws
+pub mod FlatTheorems

@@ -52,12 +52,12 @@ request-back q rest h =
     ∙ ap (λ (l : Leader). parsed (record { leader = l; isr = q .isr }) rest) (leader-back (q .leader) h)
 
 -- what the rules say of a replica that its bytes rely on
-record Writable (l : ℕ) (p : Replica) : Type 0 where
-  room : l ≤ 16
-  end : p .end ≤ l
-  epoch : mag (p .epoch) < 128
-  leader : (b : ℕ) → p .leader ≡ Broker b → b < 255
-  log : (x : ℕ) → x < p .end → mag (recordAt p x .epoch) < 128
+pub record Writable (l : ℕ) (p : Replica) : Type 0 where
+  pub room : l ≤ 16
+  pub end : p .end ≤ l
+  pub epoch : mag (p .epoch) < 128
+  pub leader : (b : ℕ) → p .leader ≡ Broker b → b < 255
+  pub log : (x : ℕ) → x < p .end → mag (recordAt p x .epoch) < 128
 
 -- its log is read into an array of zeros
 log-back : (l : ℕ) (p : Replica) (rest : List ℕ) → Writable l p
@@ -85,10 +85,10 @@ replica-back l p rest w =
     ∙ log-back l p rest w
 
 -- ---- a state that meets the rules
-named-small : (n : ℕ) (l : Leader) (isr : ℕ) → n ≤ 5 → Named n l isr → (b : ℕ) → l ≡ Broker b → b < 255
+pub named-small : (n : ℕ) (l : Leader) (isr : ℕ) → n ≤ 5 → Named n l isr → (b : ℕ) → l ≡ Broker b → b < 255
 named-small n l isr h m b e = omega (arith, m .below b e)
 
-matched-small : (next : ℕ) (requests : List Request) (z : ℤ) (l : Leader) (isr : ℕ) → next ≤ 16 → MatchesRequest next requests z l isr → mag z < 128
+pub matched-small : (next : ℕ) (requests : List Request) (z : ℤ) (l : Leader) (isr : ℕ) → next ≤ 16 → MatchesRequest next requests z l isr → mag z < 128
 matched-small next requests (pos e) l isr h m = omega (arith, m .used e refl .0)
 matched-small next requests (negsuc k) l isr h m = omega (arith, m .low k refl)
 
@@ -99,7 +99,7 @@ in-use-small nextId next r h u = go (r .epoch) refl
     go (pos e) q = omega (arith, u .epoch e q)
     go (negsuc k) q = absurd (u .signed k q)
 
-writable : (s : State) → rules s ≡ true → (i : ℕ) → i < replicaCount (s .limits) → Writable (logSize (s .limits)) (replicaAt s i)
+pub writable : (s : State) → rules s ≡ true → (i : ℕ) → i < replicaCount (s .limits) → Writable (logSize (s .limits)) (replicaAt s i)
 writable s h i k =
     let r = rules-iff s .0 h in
     let b = rules-bounded s h in

@@ -1,11 +1,11 @@
 -- The loops of weak and strong ISR take a few numbers out of the state, and go by these. They ask what the definition asks.
 -- Assumes nothing.
 use Prim.Native.Nat.{ℕ, zero, suc, _<_}
-use mathlib.Core.Path.{_≡_, refl, sym, _∙_, ap}
+use mathlib.Core.Path.{_≡_, refl}
 use mathlib.Core.Bool.{Bool, true, false, cond}
 use mathlib.Core.Option.{Option, none}
 use native.Mathlib.Omega.{arith}
-use Rattle.logic.specs.Search.{Triple, orElse, firstBelow, firstThird}
+use Rattle.logic.specs.Search.{orElse, firstBelow, firstThird}
 use Rattle.parts.specs.Isr.{member}
 use Rattle.parts.specs.Leader.{names}
 use Rattle.cluster.specs.declared.State.{State}

@@ -11,7 +11,6 @@ use Rattle.parts.specs.Refusal.{accepted, brokenState, tooShort, leftOver, buff
 use Rattle.parts.specs.Isr.{bit}
 use Rattle.cluster.specs.declared.State.{State}
 use Rattle.cluster.specs.declared.Outcome.{Outcome}
-use Rattle.cluster.specs.State.{replicaCount}
 use Rattle.cluster.specs.Rules.{rules}
 use Rattle.cluster.specs.Fresh.{answer, fresh}
 use Rattle.cluster.specs.Act.{actionOf, act}

@@ -2,11 +2,11 @@
 use Prim.Native.Nat.{ℕ, zero, suc, _+_, _*_, _≤_, _<_}
 use mathlib.Core.Path.{_≡_, refl, sym, _∙_, ap, subst}
 use mathlib.Core.Bool.{Bool, true, false, not}
-use mathlib.Core.List.{List, [], _∷_, _++_}
+use mathlib.Core.List.{List, [], _∷_}
 use native.Mathlib.Omega.{arith}
 use native.Mathlib.Decide.{decLt}
 use lib.Dec.{ltb}
-use lib.ListN.{length, drop, getD}
+use lib.ListN.{length, getD}
 use mir.Val.{boolByte}
 use borrow.Author.Tests.{lt-ltb, le-ltb, ltb-false, eq-eqb, ne-eqb}
 use Rattle.logic.specs.Refuse.{refuse-yes, refuse-no, refuse-zero}
@@ -23,9 +23,9 @@ use Rattle.images.specs.Image.{image, writeImage, bufferAfter}
 use Rattle.images.specs.ImageLaws.{image-most}
 use Rattle.images.specs.WriteLaws.{writes-broken, writes-short, writes-all}
 use Rattle.runs.specs.declared.Verdict.{Verdict}
-use Rattle.flat.specs.Flat.{flatWidth, flat, stateOfFlat}
+use Rattle.flat.specs.Flat.{flatWidth, stateOfFlat}
 use Rattle.flat.specs.FlatLaws.{flat-width}
-use Rattle.replay.specs.Interface.{Reply, refuses, gives, number, outAfter, lengthWritten, Replies, replyBy, imageReply, renameBy, widthRefusal, onState, numberAndLength, threeNumbers, verdictWidth, numberBytes, verdictBytes}
+use Rattle.replay.specs.Interface.{Reply, refuses, gives, number, outAfter, lengthWritten, Replies, replyBy, imageReply, renameBy, widthRefusal, onState, numberAndLength, verdictWidth, numberBytes, verdictBytes}
 
 -- ---- replies
 -- the answer's own number refuses

@@ -1,9 +1,8 @@
 // What an answer puts at the front of the buffer: nothing where it is refused or the buffer is too short.
-ghost use mathlib.Core.Path.{_≡_};
 ghost use Prim.Native.Nat.{_+_, _≤_};
 ghost use lib.ListN.{length};
 ghost use Rattle.logic.specs.Stores.{Stored};
-ghost use Rattle.replay.specs.Interface.{Reply, Replies, gives, stateReply, isrReply, offerReply, numberBytes, threeNumbers, verdictWidth, verdictBytes};
+ghost use Rattle.replay.specs.Interface.{Replies, gives, stateReply, isrReply, offerReply, numberBytes, threeNumbers, verdictWidth, verdictBytes};
 use cluster::Outcome;
 use flat::WIDTH;
 use flat::write::put_state;

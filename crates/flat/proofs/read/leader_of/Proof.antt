@@ -1,9 +1,5 @@
-use Prim.Native.Nat.{ℕ, zero, suc, _-_}
-use mathlib.Core.Path.{_≡_, refl, ap}
-use native.Mathlib.Omega.{arith}
+use Prim.Native.Nat.{_-_}
 use borrow.Author.Needs.{needs}
-use Rattle.parts.specs.declared.Leader.{Leader}
-use Rattle.parts.specs.declared.Leader.the-variants.{Broker}
 use Rattle.flat.specs.Flat.{leaderOfFlat}
 use Rattle.flat.specs.FlatLaws.{leader-of-some}
 use Rattle.flat.proofs.read.leader_of.Statement.{statement}

@@ -1,0 +1,294 @@
+-- "Every 226 bytes are some State, and flat to State to flat gives the same bytes." And the other way: a state comes back from its
+-- flat form, unused room too. Assumes nothing.
+use Prim.Native.Nat.{ℕ, zero, suc, _+_, _*_, _≤_, _<_}
+use mathlib.Core.Path.{_≡_, refl, sym, _∙_, ap, ap₂}
+use mathlib.Core.Bool.{Bool, true, false, cond}
+use mathlib.Core.List.{List, [], _∷_, _++_, append-assoc, append-nil}
+use native.Mathlib.Omega.{arith}
+use native.Mathlib.Nat.{mul-comm}
+use native.Mathlib.Decide.{ℕ-discrete, decLt}
+use lib.Dec.{ltb}
+use lib.IntN.{ℤ, pos}
+use lib.Signed.{mag}
+use lib.ListN.{length, take, drop, length-drop, length-replicate, getD-replicate}
+use lib.Seq.{length-take-le, getD-take, getD-drop, take-add, take-all, drop-at, drop-drop}
+use borrow.Author.Tests.{lt-ltb, le-ltb}
+use Rattle.logic.specs.Table.{table, tableFrom, length-table, getD-table, ext-table, cond-true}
+use Rattle.logic.specs.Concat.{concatBelow, concat-width}
+use Rattle.parts.specs.declared.Leader.{Leader}
+use Rattle.parts.specs.declared.Leader.the-variants.{None, Broker}
+use Rattle.parts.specs.Mark.{byteAt}
+use Rattle.parts.specs.Epoch.{lastEpoch}
+use Rattle.parts.specs.ByteLaws.{epoch-back, epoch-byte-back}
+use Rattle.replica.specs.declared.Record.{Record}
+use Rattle.replica.specs.declared.Replica.{Replica}
+use Rattle.replica.specs.Replica.{replicaOf, zeroRecord, noReplica, recordAt, tidyRecord, tidyReplica}
+use Rattle.cluster.specs.declared.Quorum.{Quorum}
+use Rattle.cluster.specs.declared.Request.{Request}
+use Rattle.cluster.specs.declared.State.{State}
+use Rattle.cluster.specs.State.{replicaCount, nextLeaderEpoch, nextRecordId, zeroRequest, requestAt, replicaAt, stateOf, tidyRequestAt, tidyReplicaAt, tidy}
+use Rattle.cluster.specs.Rules.{rules}
+use Rattle.cluster.specs.RuleLaws.{rules-bounded}
+use Rattle.cluster.specs.Predicates.{rules-iff}
+use Rattle.images.specs.Image.{recordBytes, recordBytesAt, replicaHeadBy}
+use Rattle.images.specs.Read.{recordOf}
+use Rattle.images.specs.PartLaws.{Bytes}
+use Rattle.images.specs.RoundTrip.{named-small, writable}
+use Rattle.flat.specs.Flat.{flatWidth, headerWidth, requestWidth, replicaWidth, headWidth, recordWidth, replicasAt, flatLeader, leaderOfFlat, flatRequest, flatRequestAt, flatReplica, flatReplicaAt, flatHeader, flat, requestOfFlat, recordOfFlat, replicaOfFlat, quorumOfFlat, requestOfFlatAt, replicaOfFlatAt, stateOfFlat}
+use Rattle.flat.specs.FlatLaws.{replica-width, requests-width}
+
+-- ---- bytes, read and written again
+leader-bytes : (b : ℕ) → b < 256 → flatLeader (leaderOfFlat b) ≡ b
+unfolding flatLeader leaderOfFlat
+leader-bytes zero h = refl
+leader-bytes (suc i) h = cond-true (ltb i 255) (i + 1) 0 (lt-ltb i 255 (omega arith)) ∙ omega arith
+
+bytes-drop : (k : ℕ) (bs : List ℕ) → Bytes bs → Bytes (drop k bs)
+bytes-drop k bs h = record { byte = λ i. rw (getD-drop k bs i 0) (h .byte (k + i)) }
+
+-- the first n bytes by number
+front-bytes : (n : ℕ) (bs : List ℕ) → n ≤ length bs → table n (byteAt bs) ≡ take n bs
+front-bytes n bs h = sym (ext-table 0 n (byteAt bs) (take n bs) (length-take-le n bs h) (λ i l. getD-take n bs i 0 l))
+
+-- parts of w bytes one after the other
+parts-joined : (w n : ℕ) (f : ℕ → List ℕ) (bs : List ℕ) → ((i : ℕ) → i < n → f i ≡ take w (drop (w * i) bs)) → concatBelow n f ≡ take (w * n) bs
+unfolding concatBelow
+parts-joined w zero f bs h = let e : w * 0 ≡ 0 = omega arith in rw e
+parts-joined w (suc n) f bs h =
+    let e : w * suc n ≡ w * n + w = omega arith in
+    rw e (ap₂ (λ (a b : List ℕ). a ++ b) (parts-joined w n f bs (λ i l. h i (omega arith))) (h n (omega arith)) ∙ sym (take-add (w * n) w bs))
+
+request-bytes : (bs : List ℕ) → Bytes bs → 2 ≤ length bs → flatRequest (requestOfFlat bs) ≡ take 2 bs
+unfolding table tableFrom
+request-bytes bs b h = ap (λ (l : ℕ). l ∷ byteAt bs 1 ∷ []) (leader-bytes (byteAt bs 0) (b .byte 0)) ∙ front-bytes 2 bs h
+
+record-bytes : (bs : List ℕ) → Bytes bs → 2 ≤ length bs → recordBytes (recordOf bs) ≡ take 2 bs
+unfolding table tableFrom
+record-bytes bs b h = ap (λ (e : ℕ). byteAt bs 0 ∷ e ∷ []) (epoch-byte-back (byteAt bs 1) (b .byte 1)) ∙ front-bytes 2 bs h
+
+log-bytes : (bs : List ℕ) → Bytes bs → 37 ≤ length bs → concatBelow 16 (recordBytesAt (replicaOfFlat bs)) ≡ take 32 (drop headWidth bs)
+log-bytes bs b h = parts-joined recordWidth 16 (recordBytesAt (replicaOfFlat bs)) (drop headWidth bs) at
+  where
+    at : (x : ℕ) → x < 16 → recordBytesAt (replicaOfFlat bs) x ≡ take 2 (drop (recordWidth * x) (drop headWidth bs))
+    at x l =
+        let k : 2 ≤ length (drop (headWidth + recordWidth * x) bs) = rw (length-drop (headWidth + recordWidth * x) bs) (omega arith) in
+        ap recordBytes (getD-table 16 (recordOfFlat bs) x zeroRecord l)
+        ∙ record-bytes (drop (headWidth + recordWidth * x) bs) (bytes-drop (headWidth + recordWidth * x) bs b) k
+        ∙ ap (take 2) (sym (drop-drop (recordWidth * x) headWidth bs))
+
+replica-bytes : (bs : List ℕ) → Bytes bs → 37 ≤ length bs → flatReplica (replicaOfFlat bs) ≡ take 37 bs
+unfolding table tableFrom
+replica-bytes bs b h =
+    let head : replicaHeadBy (replicaOfFlat bs) (flatLeader (leaderOfFlat (byteAt bs 2))) ≡ take 5 bs =
+    ap₂ (λ (e l : ℕ). byteAt bs 0 ∷ e ∷ l ∷ byteAt bs 3 ∷ byteAt bs 4 ∷ []) (epoch-byte-back (byteAt bs 1) (b .byte 1)) (leader-bytes (byteAt bs 2) (b .byte 2))
+    ∙ front-bytes 5 bs (omega arith) in
+    ap₂ (λ (a c : List ℕ). a ++ c) head (log-bytes bs b h) ∙ sym (take-add 5 32 bs)
+
+requests-bytes : (bs : List ℕ) → Bytes bs → length bs ≡ flatWidth → concatBelow 16 (flatRequestAt (stateOfFlat bs)) ≡ take 32 (drop headerWidth bs)
+unfolding stateOfFlat
+requests-bytes bs b h = parts-joined requestWidth 16 (flatRequestAt (stateOfFlat bs)) (drop headerWidth bs) at
+  where
+    at : (e : ℕ) → e < 16 → flatRequestAt (stateOfFlat bs) e ≡ take 2 (drop (requestWidth * e) (drop headerWidth bs))
+    at e l =
+        let k : 2 ≤ length (drop (headerWidth + requestWidth * e) bs) = rw (length-drop (headerWidth + requestWidth * e) bs) (omega arith) in
+        ap flatRequest (getD-table 16 (requestOfFlatAt bs) e zeroRequest l)
+        ∙ request-bytes (drop (headerWidth + requestWidth * e) bs) (bytes-drop (headerWidth + requestWidth * e) bs b) k
+        ∙ ap (take 2) (sym (drop-drop (requestWidth * e) headerWidth bs))
+
+replicas-bytes : (bs : List ℕ) → Bytes bs → length bs ≡ flatWidth → concatBelow 5 (flatReplicaAt (stateOfFlat bs)) ≡ take 185 (drop replicasAt bs)
+unfolding stateOfFlat
+replicas-bytes bs b h = parts-joined replicaWidth 5 (flatReplicaAt (stateOfFlat bs)) (drop replicasAt bs) at
+  where
+    at : (i : ℕ) → i < 5 → flatReplicaAt (stateOfFlat bs) i ≡ take 37 (drop (replicaWidth * i) (drop replicasAt bs))
+    at i l =
+        let k : 37 ≤ length (drop (replicasAt + replicaWidth * i) bs) = rw (length-drop (replicasAt + replicaWidth * i) bs) (omega arith) in
+        ap flatReplica (getD-table 5 (replicaOfFlatAt bs) i noReplica l)
+        ∙ replica-bytes (drop (replicasAt + replicaWidth * i) bs) (bytes-drop (replicasAt + replicaWidth * i) bs b) k
+        ∙ ap (take 37) (sym (drop-drop (replicaWidth * i) replicasAt bs))
+
+-- "flat to State to flat gives the same bytes"
+pub bytes-back : (bs : List ℕ) → Bytes bs → length bs ≡ flatWidth → flat (stateOfFlat bs) ≡ bs
+unfolding flat stateOfFlat table tableFrom
+bytes-back bs b h =
+    let header : flatHeader (stateOfFlat bs) ≡ take 9 bs =
+    ap₂ (λ (e l : ℕ). byteAt bs 0 ∷ byteAt bs 1 ∷ byteAt bs 2 ∷ byteAt bs 3 ∷ byteAt bs 4 ∷ byteAt bs 5 ∷ e ∷ l ∷ byteAt bs 8 ∷ []) (epoch-byte-back (byteAt bs 6) (b .byte 6)) (leader-bytes (byteAt bs 7) (b .byte 7))
+    ∙ front-bytes 9 bs (omega arith) in
+    let rest : concatBelow 16 (flatRequestAt (stateOfFlat bs)) ++ concatBelow 5 (flatReplicaAt (stateOfFlat bs)) ≡ take 217 (drop 9 bs) =
+    ap₂ (λ (a c : List ℕ). a ++ c) (requests-bytes bs b h) (replicas-bytes bs b h ∙ ap (take 185) (sym (drop-drop 32 9 bs)))
+    ∙ sym (take-add 32 185 (drop 9 bs)) in
+    ap₂ (λ (a c : List ℕ). a ++ c) header rest ∙ sym (take-add 9 217 bs) ∙ take-all 226 bs (omega arith)
+
+-- so no two of them are one state
+pub bytes-one-to-one : (bs cs : List ℕ) → Bytes bs → Bytes cs → length bs ≡ flatWidth → length cs ≡ flatWidth → stateOfFlat bs ≡ stateOfFlat cs → bs ≡ cs
+bytes-one-to-one bs cs b c h k e = sym (bytes-back bs b h) ∙ ap flat e ∙ bytes-back cs c k
+
+-- ---- a state, written and read again
+-- what a byte can hold: epochs from -128 to 127, and leaders below 255
+abbrev pub SmallEpoch : ℤ → Type 0
+SmallEpoch z = mag z < 128
+
+abbrev pub SmallLeader : Leader → Type 0
+SmallLeader l = (b : ℕ) → l ≡ Broker b → b < 255
+
+-- all that a state holds, unused room too, is so, and its arrays have their lengths
+pub record Flattens (s : State) : Type 0 where
+  pub requestsLength : length (s .requests) ≡ 16
+  pub replicasLength : length (s .replicas) ≡ 5
+  pub logLength : (i : ℕ) → i < 5 → length (replicaAt s i .log) ≡ 16
+  pub quorumEpoch : SmallEpoch (s .quorum .epoch)
+  pub quorumLeader : SmallLeader (s .quorum .leader)
+  pub requestLeader : (e : ℕ) → e < 16 → SmallLeader (requestAt s e .leader)
+  pub epoch : (i : ℕ) → i < 5 → SmallEpoch (replicaAt s i .epoch)
+  pub leader : (i : ℕ) → i < 5 → SmallLeader (replicaAt s i .leader)
+  pub recordEpoch : (i x : ℕ) → i < 5 → x < 16 → SmallEpoch (recordAt (replicaAt s i) x .epoch)
+
+leader-back : (l : Leader) → SmallLeader l → leaderOfFlat (flatLeader l) ≡ l
+unfolding leaderOfFlat flatLeader
+leader-back None h = refl
+leader-back (Broker b) h =
+    let e : cond (ltb b 255) (b + 1) 0 ≡ suc b = cond-true (ltb b 255) (b + 1) 0 (lt-ltb b 255 (h b refl)) ∙ omega arith in
+    ap leaderOfFlat e
+
+-- what stands at the place of part i, where each part has w bytes: that part, and something behind it
+part-at : (w n : ℕ) (f : ℕ → List ℕ) (rest : List ℕ) → ((i : ℕ) → i < n → length (f i) ≡ w) → (i : ℕ) → i < n
+    → (more : List ℕ) × (drop (w * i) (concatBelow n f ++ rest) ≡ f i ++ more)
+unfolding concatBelow
+part-at w zero f rest h i l = absurd (omega arith)
+part-at w (suc n) f rest h i l =
+    elim (ℕ-discrete i n) [
+      | yes e ↦
+          let k : length (concatBelow n f) ≡ w * i = concat-width w n f (λ j m. h j (omega arith)) ∙ mul-comm n w ∙ ap (λ (j : ℕ). w * j) (sym e) in
+          (rest, ap (drop (w * i)) (append-assoc (concatBelow n f) (f n) rest) ∙ drop-at (concatBelow n f) (f n ++ rest) (w * i) k ∙ ap (λ (j : ℕ). f j ++ rest) (sym e))
+      | no e ↦
+          let p = part-at w n f (f n ++ rest) (λ j m. h j (omega arith)) i (omega arith) in
+          (p .0, ap (drop (w * i)) (append-assoc (concatBelow n f) (f n) rest) ∙ p .1)
+    ]
+
+request-back : (q : Request) (more : List ℕ) → SmallLeader (q .leader) → requestOfFlat (flatRequest q ++ more) ≡ q
+request-back q more h = ap (λ (l : Leader). record { leader = l; isr = q .isr }) (leader-back (q .leader) h)
+
+record-back : (r : Record) (more : List ℕ) → SmallEpoch (r .epoch) → recordOf (recordBytes r ++ more) ≡ r
+record-back r more h = ap (λ (z : ℤ). record { id = r .id; epoch = z }) (epoch-back (r .epoch) h)
+
+-- the record at offset x is read where it was written
+record-found : (p : Replica) (more : List ℕ) (x : ℕ) → x < 16 → SmallEpoch (recordAt p x .epoch) → recordOfFlat (flatReplica p ++ more) x ≡ recordAt p x
+record-found p more x l h =
+    let at = part-at 2 16 (recordBytesAt p) more (λ x l. refl) x l in
+    ap recordOf (sym (drop-drop (recordWidth * x) headWidth (flatReplica p ++ more)) ∙ at .1) ∙ record-back (recordAt p x) (at .0) h
+
+replica-back : (p : Replica) (more : List ℕ) → length (p .log) ≡ 16 → SmallEpoch (p .epoch) → SmallLeader (p .leader)
+    → ((x : ℕ) → x < 16 → SmallEpoch (recordAt p x .epoch)) → replicaOfFlat (flatReplica p ++ more) ≡ p
+replica-back p more n e l r =
+    let log : table 16 (recordOfFlat (flatReplica p ++ more)) ≡ p .log =
+    sym (ext-table zeroRecord 16 (recordOfFlat (flatReplica p ++ more)) (p .log) n (λ x k. sym (record-found p more x k (r x k)))) in
+    ap (λ (z : ℤ). replicaOf (p .hw) z (leaderOfFlat (flatLeader (p .leader))) (p .isr) (p .end) (table 16 (recordOfFlat (flatReplica p ++ more)))) (epoch-back (p .epoch) e)
+    ∙ ap (λ (k : Leader). replicaOf (p .hw) (p .epoch) k (p .isr) (p .end) (table 16 (recordOfFlat (flatReplica p ++ more)))) (leader-back (p .leader) l)
+    ∙ ap (λ (k : List Record). replicaOf (p .hw) (p .epoch) (p .leader) (p .isr) (p .end) k) log
+
+requests-back : (s : State) → Flattens s → table 16 (requestOfFlatAt (flat s)) ≡ s .requests
+unfolding flat
+requests-back s f = sym (ext-table zeroRequest 16 (requestOfFlatAt (flat s)) (s .requests) (f .requestsLength) at)
+  where
+    at : (e : ℕ) → e < 16 → requestAt s e ≡ requestOfFlatAt (flat s) e
+    at e l =
+        let found = part-at 2 16 (flatRequestAt s) (concatBelow 5 (flatReplicaAt s)) (λ e l. refl) e l in
+        sym (ap requestOfFlat (sym (drop-drop (requestWidth * e) headerWidth (flat s)) ∙ found .1) ∙ request-back (requestAt s e) (found .0) (f .requestLeader e l))
+
+replicas-back : (s : State) → Flattens s → table 5 (replicaOfFlatAt (flat s)) ≡ s .replicas
+unfolding flat
+replicas-back s f = sym (ext-table noReplica 5 (replicaOfFlatAt (flat s)) (s .replicas) (f .replicasLength) at)
+  where
+    behind : drop replicasAt (flat s) ≡ concatBelow 5 (flatReplicaAt s) ++ []
+    behind =
+        sym (drop-drop 32 headerWidth (flat s))
+        ∙ drop-at (concatBelow 16 (flatRequestAt s)) (concatBelow 5 (flatReplicaAt s)) 32 (requests-width s)
+        ∙ sym (append-nil (concatBelow 5 (flatReplicaAt s)))
+
+    at : (i : ℕ) → i < 5 → replicaAt s i ≡ replicaOfFlatAt (flat s) i
+    at i l =
+        let found = part-at 37 5 (flatReplicaAt s) [] (λ i l. replica-width (replicaAt s i)) i l in
+        sym
+        (ap replicaOfFlat (sym (drop-drop (replicaWidth * i) replicasAt (flat s)) ∙ ap (drop (replicaWidth * i)) behind ∙ found .1)
+        ∙ replica-back (replicaAt s i) (found .0) (f .logLength i l) (f .epoch i l) (f .leader i l) (λ x k. f .recordEpoch i x l k))
+
+-- the state comes back from its flat form
+pub state-back : (s : State) → Flattens s → stateOfFlat (flat s) ≡ s
+unfolding stateOfFlat flat
+state-back s f =
+    let quorum : quorumOfFlat (flat s) ≡ s .quorum =
+    ap₂ (λ (z : ℤ) (l : Leader). record { epoch = z; leader = l; isr = s .quorum .isr }) (epoch-back (s .quorum .epoch) (f .quorumEpoch)) (leader-back (s .quorum .leader) (f .quorumLeader)) in
+    ap (λ (q : Quorum). stateOf (s .limits) (nextLeaderEpoch s) (nextRecordId s) q (table 16 (requestOfFlatAt (flat s))) (table 5 (replicaOfFlatAt (flat s)))) quorum
+    ∙ ap₂ (λ (q : List Request) (p : List Replica). stateOf (s .limits) (nextLeaderEpoch s) (nextRecordId s) (s .quorum) q p) (requests-back s f) (replicas-back s f)
+
+-- ---- a tidy state that meets the rules is so
+small-zero : SmallEpoch (pos 0)
+small-zero = omega arith
+
+small-none : SmallLeader None
+small-none b e = absurd (let z : _≡_ {A = ℕ} 0 1 = cc in omega arith)
+
+tidy-replica-small : (s : State) → rules s ≡ true → (i : ℕ) → i < 5
+    → SmallEpoch (tidyReplicaAt s i .epoch) × SmallLeader (tidyReplicaAt s i .leader) × ((x : ℕ) → x < 16 → SmallEpoch (recordAt (tidyReplicaAt s i) x .epoch))
+unfolding tidyReplica
+tidy-replica-small s h i l =
+    elim (decLt i (replicaCount (s .limits))) [
+      | yes k ↦
+          let w = writable s h i k in
+          let p = replicaAt s i in
+          rw (lt-ltb i (replicaCount (s .limits)) k) (
+            w .epoch,
+            w .leader,
+            λ x m.
+                rw (getD-table 16 (tidyRecord p) x zeroRecord m)
+                (elim (decLt x (p .end)) [
+                  | yes n ↦ rw (lt-ltb x (p .end) n) (w .log x n)
+                  | no n ↦ rw (le-ltb x (p .end) (omega arith)) small-zero
+                ]),
+          )
+      | no k ↦
+          rw (le-ltb i (replicaCount (s .limits)) (omega arith))
+          (small-zero, small-none, λ x m. rw (getD-replicate 16 x zeroRecord zeroRecord m) small-zero)
+    ]
+
+tidy-log-length : (s : State) (i : ℕ) → length (tidyReplicaAt s i .log) ≡ 16
+unfolding tidyReplica
+tidy-log-length s i = go (ltb i (replicaCount (s .limits))) refl
+  where
+    go : (b : Bool) → ltb i (replicaCount (s .limits)) ≡ b → length (tidyReplicaAt s i .log) ≡ 16
+    go true e = rw e (length-table 16 (tidyRecord (replicaAt s i)))
+    go false e = rw e (length-replicate 16 zeroRecord)
+
+tidy-request-small : (s : State) → rules s ≡ true → (e : ℕ) → SmallLeader (tidyRequestAt s e .leader)
+tidy-request-small s h e =
+    elim (decLt e (nextLeaderEpoch s)) [
+      | yes k ↦
+          rw (lt-ltb e (nextLeaderEpoch s) k)
+          (named-small (replicaCount (s .limits)) (requestAt s e .leader) (requestAt s e .isr) (rules-bounded s h .replicas) (rules-iff s .0 h .s2 .requests e k))
+      | no k ↦ rw (le-ltb e (nextLeaderEpoch s) (omega arith)) small-none
+    ]
+
+last-small : (n : ℕ) → n ≤ 16 → SmallEpoch (lastEpoch n)
+unfolding lastEpoch
+last-small zero h = omega arith
+last-small (suc n) h = omega arith
+
+pub flattens-tidy : (s : State) → rules s ≡ true → Flattens (tidy s)
+unfolding tidy
+flattens-tidy s h =
+    let r = rules-iff s .0 h in
+    let b = rules-bounded s h in
+    record {
+      requestsLength = length-table 16 (tidyRequestAt s);
+      replicasLength = length-table 5 (tidyReplicaAt s);
+      logLength = λ i l. rw (getD-table 5 (tidyReplicaAt s) i noReplica l) (tidy-log-length s i);
+      quorumEpoch = rw (r .s3 .epoch) (last-small (nextLeaderEpoch s) (b .requests));
+      quorumLeader = named-small (replicaCount (s .limits)) (s .quorum .leader) (s .quorum .isr) (b .replicas) (r .s2 .quorum);
+      requestLeader = λ e l. rw (getD-table 16 (tidyRequestAt s) e zeroRequest l) (tidy-request-small s h e);
+      epoch = λ i l. rw (getD-table 5 (tidyReplicaAt s) i noReplica l) (tidy-replica-small s h i l .0);
+      leader = λ i l. rw (getD-table 5 (tidyReplicaAt s) i noReplica l) (tidy-replica-small s h i l .1);
+      recordEpoch = λ i x l k. rw (getD-table 5 (tidyReplicaAt s) i noReplica l) (tidy-replica-small s h i l .2 x k);
+    }
+
+-- what a function of the interface gives of a tidy state that meets the rules is taken as that state
+pub answer-back : (s : State) → rules s ≡ true → tidy s ≡ s → stateOfFlat (flat s) ≡ s
+answer-back s h t = rw t at (state-back (tidy s) (flattens-tidy s h))
