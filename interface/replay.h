@@ -2,7 +2,7 @@
  *
  * A slice is a pointer and its length. What the caller owes, and nothing checks: each pointer is good for its length (for reading,
  * and `out` for writing), and `out` overlaps no other argument. Every byte and every length is answered otherwise; the caller need
- * test nothing first. The functions keep nothing between calls, take no memory and call nothing but memcpy, so they may be called
+ * test nothing first; a length of 0 asks nothing of its pointer. The functions keep nothing between calls, take no memory and call nothing but memcpy, so they may be called
  * from several threads at once.
  *
  * A flat state has 226 bytes. Byte by byte:

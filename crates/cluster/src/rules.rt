@@ -10,6 +10,7 @@ ghost use Rattle.parts.specs.Leader.{names, sameLeader};
 ghost use Rattle.cluster.specs.State.{replicaCount, nextLeaderEpoch, nextRecordId};
 ghost use Rattle.cluster.specs.Rules.{between, inRange, rule1, leaderAndIsrInRange, replicaInRange, replicaInRangeAt, requestInRangeAt, rule2, quorumMatchesRequest, rule3, requestLeaderInIsr, rule4, replicaMatchesRequest, replicaMeetsS5, rule5, rule6, agreesWithAll, rule7, Bounded, LogsBounded};
 use crate::Limits;
+use crate::Request;
 use crate::State;
 use parts::Leader;
 use replica::Replica;
@@ -213,16 +214,22 @@ pub(crate) fn rule_4(s: State) -> bool
 
 // The epoch, leader and ISR that S5 asks of a replica: at -1 no leader and an empty ISR, otherwise the leader of the
 // request of an epoch that is used.
-fn replica_matches_request(s: State, epoch: i8, leader: Leader, isr: u8) -> bool
-    requires { ⌜ Bounded s ⌝ }
-    ensures { λ r. ⌜ r ≡ replicaMatchesRequest (nextLeaderEpoch s) (s .requests) epoch leader isr ⌝ }
+fn replica_matches_request(
+    requests: [Request; 16],
+    next: u8,
+    epoch: i8,
+    leader: Leader,
+    isr: u8,
+) -> bool
+    requires { ⌜ next ≤ 16 ⌝ }
+    ensures { λ r. ⌜ r ≡ replicaMatchesRequest next requests epoch leader isr ⌝ }
 {
     if parts::same_epoch(epoch, -1) {
         return no_leader_with_isr(leader, isr, 0);
     }
-    if parts::epoch_used(s.next_leader_epoch, epoch) {
+    if parts::epoch_used(next, epoch) {
         let e = parts::request_place(epoch);
-        let q = s.requests[e];
+        let q = requests[e];
         let l = q.leader;
         return leader.same(l);
     }
@@ -240,14 +247,14 @@ fn own_leader_in_isr(leader: Leader, isr: u8, a: u8) -> bool
 }
 
 // S5 of the replica p named i.
-fn replica_meets_s5(s: State, p: Replica, i: usize) -> bool
-    requires { ⌜ Bounded s ⌝ }
+fn replica_meets_s5(requests: [Request; 16], next: u8, p: Replica, i: usize) -> bool
+    requires { ⌜ next ≤ 16 ⌝ }
     requires { ⌜ i < 5 ⌝ }
-    ensures { λ r. ⌜ r ≡ replicaMeetsS5 (nextLeaderEpoch s) (s .requests) p i ⌝ }
+    ensures { λ r. ⌜ r ≡ replicaMeetsS5 next requests p i ⌝ }
 {
     let l = p.leader;
     let a = i as u8;
-    if !replica_matches_request(s, p.epoch, l, p.isr) {
+    if !replica_matches_request(requests, next, p.epoch, l, p.isr) {
         return false;
     }
     if !own_leader_in_isr(l, p.isr, a) {
@@ -263,10 +270,11 @@ pub(crate) fn rule_5(s: State) -> bool
 {
     let c = s.limits;
     let n = c.replica_count as usize;
+    let requests = s.requests;
     let mut i: usize = 0;
     while i < n {
         let p = s.replicas[i];
-        if replica_meets_s5(s, p, i) {
+        if replica_meets_s5(requests, s.next_leader_epoch, p, i) {
             i = i + 1;
         } else {
             return false;

@@ -22,22 +22,22 @@ back c = toZ-ofZ (c .fits .epoch)
 none : (c : tie.After-same-epoch) → c .same-epoch .result ≡ sameEpoch (c .before .args .epoch) noEpoch
 none c = c .same-epoch .ensures ∙ ap (λ z. sameEpoch z noEpoch) (back (c .before))
 
-used : (c : tie.After-epoch-used) → c .epoch-used .result ≡ epochUsed (nextLeaderEpoch (c .before .before .before .args .t1)) (c .before .before .before .args .epoch)
-used c = c .epoch-used .ensures ∙ ap (epochUsed (nextLeaderEpoch (c .before .before .before .args .t1))) (back (c .before .before .before))
+used : (c : tie.After-epoch-used) → c .epoch-used .result ≡ epochUsed (c .before .before .before .args .next) (c .before .before .before .args .epoch)
+used c = c .epoch-used .ensures ∙ ap (epochUsed (c .before .before .before .args .next)) (back (c .before .before .before))
 
 place : (c : tie.After-request-place) → c .request-place .result ≡ requestPlace (c .before .before .before .before .before .args .epoch)
 place c = c .request-place .ensures ∙ ap requestPlace (back (c .before .before .before .before .before))
 
-in-use : (c : tie.After-request-place) → let a = c .before .before .before .before .before .args in epochUsed (nextLeaderEpoch (a .t1)) (a .epoch) ≡ true
+in-use : (c : tie.After-request-place) → let a = c .before .before .before .before .before .args in epochUsed (a .next) (a .epoch) ≡ true
 in-use c = sym (used (c .before .before)) ∙ c .before .if2 .taken
 
 -- so its request is in the array
 place-low : (c : tie.After-request-place) → c .request-place .result < 16
 place-low c =
     let a = c .before .before .before .before .before .args in
-    let h = used-place (nextLeaderEpoch (a .t1)) (a .epoch) (in-use c) in
+    let h = used-place (a .next) (a .epoch) (in-use c) in
     let e = place c in
-    omega (arith, c .before .before .before .before .before .pre .requests)
+    omega (arith, c .before .before .before .before .before .pre)
 
 same-epoch-requires : tie.Need-same-epoch-requires
 same-epoch-requires c κs = search needs
@@ -49,7 +49,7 @@ returns : tie.Need-returns
 returns c =
     let a = c .before .before .before .args in
     c .no-leader-with-isr .ensures
-    ∙ matches-none (nextLeaderEpoch (a .t1)) (a .t1 .requests) (a .leader) (a .isr) (a .epoch) (sym (none (c .before .before)) ∙ c .before .if1 .taken)
+    ∙ matches-none (a .next) (a .t1) (a .leader) (a .isr) (a .epoch) (sym (none (c .before .before)) ∙ c .before .if1 .taken)
 
 epoch-used-requires : tie.Need-epoch-used-requires
 epoch-used-requires c κs = search needs
@@ -60,8 +60,8 @@ request-place-requires c κs = search needs
 mul-q : tie.Need-mul-q
 mul-q c = record { fits = omega (arith, place-low c) }
 
-element-copy-out-q : tie.Need-element-copy-out-q
-element-copy-out-q c = place-low c
+array-copy-out-q : tie.Need-array-copy-out-q
+array-copy-out-q c = place-low c
 
 same-requires : tie.Need-same-requires
 same-requires c κs = search needs
@@ -70,13 +70,13 @@ returns-2 : tie.Need-returns-2
 returns-2 c =
     let a = c .before .before .before .before .before .before .before .args in
     c .same .ensures
-    ∙ ap (λ (k : ℕ). sameLeader (a .leader) (requestIn (a .t1 .requests) k .leader)) (place (c .before .before))
-    ∙ matches-used (nextLeaderEpoch (a .t1)) (a .t1 .requests) (a .leader) (a .isr) (a .epoch) (in-use (c .before .before))
+    ∙ ap (λ (k : ℕ). sameLeader (a .leader) (requestIn (a .t1) k .leader)) (place (c .before .before))
+    ∙ matches-used (a .next) (a .t1) (a .leader) (a .isr) (a .epoch) (in-use (c .before .before))
 
 returns-3 : tie.Need-returns-3
 returns-3 c =
     let a = c .before .before .before .before .args in
-    matches-other (nextLeaderEpoch (a .t1)) (a .t1 .requests) (a .leader) (a .isr) (a .epoch)
+    matches-other (a .next) (a .t1) (a .leader) (a .isr) (a .epoch)
     (sym (none (c .before .before .before)) ∙ c .before .before .if1 .left)
     (sym (used (c .before)) ∙ c .if2 .left)
 
@@ -90,7 +90,7 @@ replica-matches-request-spec =
     epoch-used-requires
     request-place-requires
     mul-q
-    element-copy-out-q
+    array-copy-out-q
     same-requires
     returns-2
     returns-3)

@@ -11,11 +11,11 @@ use Rattle.cluster.proofs.rules.replica_meets_s5.Tie as tie
 
 -- what the call says, the epoch's bits read back
 matches : (c : tie.After-replica-matches-request) → let a = c .before .before .args in
-    c .replica-matches-request .result ≡ replicaMatchesRequest (nextLeaderEpoch (a .s)) (a .s .requests) (a .p .epoch) (a .p .leader) (a .p .isr)
+    c .replica-matches-request .result ≡ replicaMatchesRequest (a .next) (a .requests) (a .p .epoch) (a .p .leader) (a .p .isr)
 matches c =
     let a = c .before .before .args in
     let y : toZ w8 (ofZ w8 (a .p .epoch)) ≡ a .p .epoch = search needs in
-    c .replica-matches-request .ensures ∙ ap (λ z. replicaMatchesRequest (nextLeaderEpoch (a .s)) (a .s .requests) z (a .p .leader) (a .p .isr)) y
+    c .replica-matches-request .ensures ∙ ap (λ z. replicaMatchesRequest (a .next) (a .requests) z (a .p .leader) (a .p .isr)) y
 
 cast-a : tie.Need-cast-a
 cast-a c = search needs

@@ -10,10 +10,10 @@ use Rattle.cluster.proofs.rules.rule_5.Statement.{statement}
 use Rattle.cluster.proofs.rules.rule_5.Tie as tie
 
 abbrev Inv-loop : tie.InvT-loop
-Inv-loop s n i₀ i = (i ≤ n) × (allBelow i (replicaMeetsS5At (nextLeaderEpoch s) (s .requests) (s .replicas)) ≡ true)
+Inv-loop s n requests i₀ i = (i ≤ n) × (allBelow i (replicaMeetsS5At (nextLeaderEpoch s) (s .requests) (s .replicas)) ≡ true)
 
 abbrev μ-loop : tie.MeasureT-loop
-μ-loop s n i₀ i = n - i
+μ-loop s n requests i₀ i = n - i
 
 cast-n : tie.Need-cast-n Inv-loop μ-loop
 cast-n c = search needs
@@ -41,7 +41,7 @@ loop-again c = (omega arith, all-more _ _ (c .before .before .before .before .lo
 
 returns : tie.Need-returns Inv-loop μ-loop
 unfolding rule5
-returns c = let s = c .before .before .before .before .before .before .before .args in all-fails _ (c .before .before .before .before .loop .i) (replicaMeetsS5At (nextLeaderEpoch (s .t1)) (s .t1 .requests) (s .t1 .replicas)) (omega arith) (sym (c .before .replica-meets-s5 .ensures) ∙ c .if1 .left)
+returns c = let s = c .before .before .before .before .before .before .before .before .args in all-fails _ (c .before .before .before .before .loop .i) (replicaMeetsS5At (nextLeaderEpoch (s .t1)) (s .t1 .requests) (s .t1 .replicas)) (omega arith) (sym (c .before .replica-meets-s5 .ensures) ∙ c .if1 .left)
 
 returns-2 : tie.Need-returns-2 Inv-loop μ-loop
 unfolding rule5
