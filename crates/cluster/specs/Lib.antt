@@ -11,3 +11,4 @@ pub mod Actions
 pub mod Act
 pub mod Accepted
 pub mod ActLaws
+pub mod Marks

@@ -1,14 +1,14 @@
 // The state rules S1 to S7. Each rule after S1 relies on those before it: its `requires` says what it takes from them.
 ghost use mathlib.Core.Path.{_≡_};
 ghost use Prim.Native.Nat.{_≤_, _<_};
-ghost use mathlib.Core.Bool.{not, _&&_, _||_};
+ghost use mathlib.Core.Bool.{true, not, _&&_, _||_};
 ghost use lib.Dec.{eqb};
 ghost use Rattle.logic.specs.Tests.{allBelow};
 ghost use Rattle.parts.specs.Isr.{member};
 ghost use Rattle.parts.specs.declared.Leader.the-variants.{None};
 ghost use Rattle.parts.specs.Leader.{names, sameLeader};
 ghost use Rattle.cluster.specs.State.{replicaCount, nextLeaderEpoch, nextRecordId};
-ghost use Rattle.cluster.specs.Rules.{between, inRange, rule1, leaderAndIsrInRange, replicaInRange, replicaInRangeAt, requestInRangeAt, rule2, quorumMatchesRequest, rule3, requestLeaderInIsr, rule4, replicaMatchesRequest, replicaMeetsS5, rule5, rule6, agreesWithAll, rule7, Bounded, LogsBounded};
+ghost use Rattle.cluster.specs.Rules.{between, inRange, rule1, leaderAndIsrInRange, replicaInRange, replicaInRangeAt, requestInRangeAt, rule2, quorumMatchesRequest, rule3, requestLeaderInIsr, rule4, replicaMatchesRequest, replicaMeetsS5, rule5, rule6, rule7, Bounded, LogsBounded};
 use crate::Limits;
 use crate::Request;
 use crate::State;
@@ -303,40 +303,21 @@ pub(crate) fn rule_6(s: State) -> bool
     true
 }
 
-// S7 of the log of p and every log.
-fn log_agrees_with_all(s: State, p: Replica) -> bool
-    requires { ⌜ Bounded s ⌝ }
-    requires { ⌜ LogsBounded s ⌝ }
-    requires { ⌜ p .end ≤ 16 ⌝ }
-    ensures { λ r. ⌜ r ≡ agreesWithAll (replicaCount (s .limits)) (s .replicas) p ⌝ }
-{
-    let c = s.limits;
-    let n = c.replica_count as usize;
-    let mut j: usize = 0;
-    while j < n {
-        let q = s.replicas[j];
-        if p.log_agrees(q) {
-            j = j + 1;
-        } else {
-            return false;
-        }
-    }
-    true
-}
-
-// S7: records with one id, in one log or two, stand at one offset and carry one epoch. Five logs of at most 16 records
-// make at most 6,400 pairs, and no record past an end is one of them.
+// S7: records with one id, in one log or two, stand at one offset and carry one epoch. One pass over the at most 80 records of
+// all logs: each has the mark (offset and epoch) of those of its id that were seen before it. Nothing past an end is read.
 pub(crate) fn rule_7(s: State) -> bool
     requires { ⌜ Bounded s ⌝ }
     requires { ⌜ LogsBounded s ⌝ }
+    requires { ⌜ rule6 (replicaCount (s .limits)) (nextRecordId s) (nextLeaderEpoch s) (s .replicas) ≡ true ⌝ }
     ensures { λ r. ⌜ r ≡ rule7 (replicaCount (s .limits)) (s .replicas) ⌝ }
 {
     let c = s.limits;
     let n = c.replica_count as usize;
+    let mut seen = [0u16; 256];
     let mut i: usize = 0;
     while i < n {
         let p = s.replicas[i];
-        if log_agrees_with_all(s, p) {
+        if p.log_agrees_with(&mut seen) {
             i = i + 1;
         } else {
             return false;

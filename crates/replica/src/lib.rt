@@ -5,8 +5,10 @@ ghost use mathlib.Core.List.{[], _∷_};
 ghost use Prim.Native.Nat.{_≤_, _<_};
 ghost use lib.Dec.{ltb};
 ghost use Rattle.logic.specs.Tests.{every};
+ghost use Rattle.logic.specs.Marks.{entry, Passed};
 ghost use Rattle.replica.specs.Replica.{zeroRecord, zeroReplica, recordAt, tidyReplica};
-ghost use Rattle.replica.specs.Log.{recordInUse, logInUse, recordsAgree, recordAgrees, logsAgree, sameRecord};
+ghost use Rattle.replica.specs.Log.{recordInUse, logInUse, sameRecord};
+ghost use Rattle.replica.specs.Marks.{markOf, logEntries};
 ghost use Rattle.replica.specs.Change.{withHw, withIsr, withRequest, append, truncateTo, truncateUnder, becomeFollowerAndTruncateTo};
 use parts::Leader;
 
@@ -72,36 +74,29 @@ impl Record {
         self.same(other)
     }
 
-    // Rule S7 of this record at offset x and another at offset y.
-    fn agrees(self, x: usize, other: Record, y: usize) -> bool
-        ensures { λ r. ⌜ r ≡ recordsAgree self x other y ⌝ }
+    // The mark of this record at offset x: records of one id agree (rule S7) exactly where their marks are equal. It is never
+    // 0. The caller shows that the offset is in the array.
+    fn mark(self, x: usize) -> u16
+        requires { ⌜ x < 16 ⌝ }
+        ensures { λ r. ⌜ r ≡ markOf self x ⌝ }
     {
-        if self.id == other.id {
-            if x == y {
-                return parts::same_epoch(self.epoch, other.epoch);
-            }
-            return false;
-        }
-        true
+        let epoch = parts::epoch_byte(self.epoch) as u16;
+        (x as u16 + 1) * 256 + epoch
     }
+}
 
-    // Rule S7 of this record at offset x and every record of a log. The caller shows that the log's end is in its array.
-    fn agrees_with_log(self, x: usize, other: Replica) -> bool
-        requires { ⌜ other .end ≤ 16 ⌝ }
-        ensures { λ r. ⌜ r ≡ recordAgrees self x other ⌝ }
-    {
-        let n = other.end as usize;
-        let mut y: usize = 0;
-        while y < n {
-            let q = other.log[y];
-            if self.agrees(x, q, y) {
-                y = y + 1;
-            } else {
-                return false;
-            }
-        }
-        true
+// Whether no record of this id was seen before, or one with this mark. The table has the mark of each id seen, and 0 for each
+// other; this one's is put in it.
+fn meet(seen: &mut [u16; 256], id: u8, mark: u16) -> bool
+    ensures { λ r. ⌜ Passed (now (seen .entry)) (entry id mark ∷ []) r (now (seen .exit)) ⌝ }
+{
+    let i = id as usize;
+    let found = seen[i];
+    if found == 0 {
+        seen[i] = mark;
+        return true;
     }
+    found == mark
 }
 
 impl Replica {
@@ -154,16 +149,17 @@ impl Replica {
         true
     }
 
-    // Rule S7 of every record of two logs. The caller shows that their ends are in their arrays.
-    pub fn log_agrees(self, other: Replica) -> bool
-        requires { ⌜ (self .end ≤ 16) × (other .end ≤ 16) ⌝ }
-        ensures { λ r. ⌜ r ≡ logsAgree self other ⌝ }
+    // Rule S7 of the replica's log and all records seen before it: each record of an id that was seen has the mark of that id.
+    // The table then has the marks of this log too. The caller shows that its end is in its array.
+    pub fn log_agrees_with(self, seen: &mut [u16; 256]) -> bool
+        requires { ⌜ self .end ≤ 16 ⌝ }
+        ensures { λ r. ⌜ Passed (now (seen .entry)) (logEntries self) r (now (seen .exit)) ⌝ }
     {
         let n = self.end as usize;
         let mut x: usize = 0;
         while x < n {
             let r = self.log[x];
-            if r.agrees_with_log(x, other) {
+            if meet(seen, r.id, r.mark(x)) {
                 x = x + 1;
             } else {
                 return false;

@@ -84,7 +84,10 @@ returns-6 : tie.Need-returns-6
 returns-6 c = failing-here 6 _ _ (sym (c .before .rule-6 .ensures) ∙ not-true _ (c .if6 .taken)) ∙ past5 (c .before .before)
 
 rule-7-requires : tie.Need-rule-7-requires
-rule-7-requires c κs = (bounded (c .before .before .before .before .before .before .before .before .before .before), logs-bounded (c .before .before .before .before .before .before .before .before))
+rule-7-requires c κs = (
+  bounded (c .before .before .before .before .before .before .before .before .before .before),
+  (logs-bounded (c .before .before .before .before .before .before .before .before), sym (c .before .rule-6 .ensures) ∙ not-false _ (c .if6 .left)),
+)
 
 returns-7 : tie.Need-returns-7
 returns-7 c = failing-here 7 _ _ (sym (c .before .rule-7 .ensures) ∙ not-true _ (c .if7 .taken)) ∙ past6 (c .before .before)
