@@ -1,5 +1,5 @@
 -- What the code of representatives works with: the images of renamed states in buffers, and the rows. Assumes nothing.
-use Prim.Native.Nat.{ℕ, _≤_}
+use Prim.Native.Nat.{ℕ, _≤_, _<_}
 use mathlib.Core.Path.{_≡_, sym, ap, _∙_}
 use mathlib.Core.Bool.{true}
 use mathlib.Core.List.{List, []}
@@ -21,6 +21,7 @@ use Rattle.renamings.specs.Names.{newName, oldName, isRenaming, rows, row}
 use Rattle.renamings.specs.Rows.{rows-count}
 use Rattle.renamings.specs.Rename.{renameState, renamed, Renames, Met}
 use Rattle.renamings.specs.RenameTheorems.{renamed-meets-rules}
+use Rattle.representatives.specs.declared.compare.RowImage.{RowImage}
 use Rattle.representatives.specs.Representative.{imageUnder, leastRenaming, representative, represent}
 use Rattle.representatives.specs.RepresentativeTheorems.{least-tidy}
 
@@ -42,6 +43,13 @@ pub written-part : (s t : State) (p : List ℕ) → Met s → Renames s p → t 
 written-part s t p m f e w room =
     let q = stored-part w (omega (arith, under-writes s t p m f e .1)) in
     (q .0, q .1 ∙ ap image (under s t p m e))
+
+-- what is kept of a row: it is a renaming of the state's replicas, and the bytes begin with the image under it
+pub record ImageOfRow (s : State) (r : RowImage) : Type 0 where
+  pub low : r .row < 120
+  pub renames : Renames s (row (r .row))
+  pub room : r .length ≤ length (r .bytes)
+  pub image : take (r .length) (r .bytes) ≡ imageUnder s (row (r .row))
 
 -- ---- row 0 is not better than itself, so the search may begin behind it
 pub least-start : (s : State) → leastRenaming s ≡ leastFrom (isRenaming (replicaCount (s .limits))) (imageUnder s) (row 0) (drop 1 rows)
