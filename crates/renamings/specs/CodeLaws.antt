@@ -1,18 +1,19 @@
 -- What the code of renamings works with: names, the constant of the table, and the old names as five numbers. Assumes nothing.
-use Prim.Native.Nat.{ℕ, zero, suc, _+_, _*_, _≤_, _<_}
+use Prim.Native.Nat.{ℕ, zero, suc, _+_, _*_, _/_, _%_, _^_, _≤_, _<_}
 use mathlib.Core.Path.{_≡_, refl, sym, ap, _∙_, fun-ext}
 use mathlib.Core.Bool.{true, false, not, cond}
 use mathlib.Core.List.{List, [], _∷_, map}
 use native.Mathlib.Numerals.{add-one}
 use native.Mathlib.Omega.{arith}
+use native.Mathlib.Nat.{add-zero, mod-lt}
 use lib.Dec.{eqb, ltb}
 use borrow.Author.Tests.{lt-ltb, le-ltb, ne-eqb}
 use lib.ListN.{length, getD}
 use Rattle.logic.specs.Concat.{concatBelow}
 use Rattle.logic.specs.Maps.{map-table}
 use Rattle.logic.specs.Table.{table, getD-table, table-cong}
-use Rattle.parts.specs.Isr.{member}
-use Rattle.parts.specs.IsrLaws.{below-five, isrOf-cong}
+use Rattle.parts.specs.Isr.{member, bit}
+use Rattle.parts.specs.IsrLaws.{below-five, isrOf-cong, member-low}
 use Rattle.replica.specs.declared.Replica.{Replica}
 use Rattle.cluster.specs.declared.Request.{Request}
 use Rattle.cluster.specs.declared.State.{State}
@@ -28,7 +29,7 @@ use Rattle.cluster.specs.Equality.{state-path}
 use Rattle.renamings.specs.Names.{newName, holder, oldName, inverted, nameIn, Inward, inPlace, isRenaming, withoutPlace, orders, rows, row, tableNumbers}
 use Rattle.renamings.specs.Rename.{renameIsr, renamedRequestAt, renameQuorum, renameRequest, renameReplica, renamedReplicaAt, renameReplicas, renameState, renamed, Renames, renameRefusal, rename}
 use Rattle.renamings.specs.Renaming.{from-below}
-use Rattle.renamings.specs.Rows.{keepsPlace, rows-count, renamingOf}
+use Rattle.renamings.specs.Rows.{keepsPlace, rows-count, renamingOf, row-numbers}
 
 -- ---- names
 pub new-name-place : (p : List ℕ) (i : ℕ) → i < 5 → getD p i 0 ≡ newName p i
@@ -79,10 +80,25 @@ numbers-rows : rowsOf tableNumbers ≡ rows
 unfolding rowsOf tableNumbers rows orders withoutPlace concatBelow
 numbers-rows = refl
 
-pub numbers-at : (k j : ℕ) → k < 120 → j < 5 → getD tableNumbers (5 * k + j) 0 ≡ getD (row k) j 0
+numbers-at : (k j : ℕ) → k < 120 → j < 5 → getD tableNumbers (5 * k + j) 0 ≡ getD (row k) j 0
 numbers-at k j h i =
     rows-at tableNumbers k j (omega (arith, ap (λ (r : List (List ℕ)). length r) numbers-rows, rows-count)) i
     ∙ ap (λ (r : List (List ℕ)). getD (getD r k []) j 0) numbers-rows
+
+pub five-numbers : (k : ℕ) → k < 120
+    → getD tableNumbers (5 * k) 0 ∷ getD tableNumbers (5 * k + 1) 0 ∷ getD tableNumbers (5 * k + 2) 0 ∷ getD tableNumbers (5 * k + 3) 0 ∷ getD tableNumbers (5 * k + 4) 0 ∷ [] ≡ row k
+five-numbers k h =
+    let first : getD tableNumbers (5 * k) 0 ≡ getD (row k) 0 0 = ap (λ (i : ℕ). getD tableNumbers i 0) (sym (add-zero (5 * k))) ∙ numbers-at k 0 h (omega arith) in
+    rw (first, numbers-at k 1 h (omega arith), numbers-at k 2 h (omega arith), numbers-at k 3 h (omega arith), numbers-at k 4 h (omega arith)) (sym (row-numbers k h))
+
+-- ---- a member of an ISR as a bit
+pub member-bit : (isr i : ℕ) → i < 5 → isr / 2 ^ i % 2 ≡ bit (member isr i)
+member-bit isr i h = rw (member-low isr i h) (go (isr / 2 ^ i % 2) (mod-lt (isr / 2 ^ i) (omega arith)))
+  where
+    go : (r : ℕ) → r < 2 → r ≡ bit (eqb r 1)
+    go zero l = refl
+    go (suc zero) l = refl
+    go (suc (suc r)) l = absurd (omega arith)
 
 -- ---- the old names as five numbers
 inverted-at : (p : List ℕ) (j : ℕ) → j < 5 → nameIn (inverted p) j ≡ oldName p j

@@ -12,13 +12,7 @@ pub fn row(k: usize) -> [u8; 5]
     requires { ⌜ k < 120 ⌝ }
     ensures { λ r. ⌜ r ≡ row k ⌝ }
 {
-    [
-        table::place(k, 0),
-        table::place(k, 1),
-        table::place(k, 2),
-        table::place(k, 3),
-        table::place(k, 4),
-    ]
+    table::five(k)
 }
 
 // Whether row k is a renaming of n replicas: whether it leaves the places from n on. The caller shows that there is such a row,
@@ -28,9 +22,10 @@ pub fn row_fits(k: usize, n: u8) -> bool
     requires { ⌜ n ≤ 5 ⌝ }
     ensures { λ r. ⌜ r ≡ isRenaming n (row k) ⌝ }
 {
+    let p = row(k);
     let mut i = n as usize;
     while i < 5 {
-        if table::place(k, i) as usize == i {
+        if p[i] as usize == i {
             i = i + 1;
         } else {
             return false;

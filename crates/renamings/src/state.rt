@@ -1,7 +1,8 @@
-// A state under a renaming p; `back` is its inverse, which holds the old names.
+// A state under a renaming p; `back` is its inverse, which holds the old names. The caller of each function that takes it shows
+// that each old name is below five.
 ghost use mathlib.Core.Path.{_≡_};
 ghost use mathlib.Core.Bool.{true};
-ghost use Prim.Native.Nat.{_≤_};
+ghost use Prim.Native.Nat.{_≤_, _<_};
 ghost use Rattle.parts.specs.Isr.{member, bit};
 ghost use Rattle.logic.specs.Table.{table};
 ghost use Rattle.cluster.specs.State.{withRequests, withReplicas};
@@ -25,18 +26,17 @@ fn rename_leader(p: [u8; 5], leader: Leader) -> Leader
     }
 }
 
-// 1 for a member of the ISR, else 0.
+// 1 for a member of the ISR, else 0. The caller shows that there is such a replica.
 fn member_bit(isr: u8, i: u8) -> u8
+    requires { ⌜ i < 5 ⌝ }
     ensures { λ r. ⌜ (r ≡ bit (member isr i)) × (r ≤ 1) ⌝ }
 {
-    if parts::is_member(isr, i) {
-        return 1;
-    }
-    0
+    (isr >> i) % 2
 }
 
 // The ISR with each member by its new name.
 fn rename_isr(back: [u8; 5], isr: u8) -> u8
+    requires { ⌜ Inward back ⌝ }
     ensures { λ r. ⌜ r ≡ renameIsr (nameIn back) isr ⌝ }
 {
     let a = member_bit(isr, back[0]);
@@ -48,6 +48,7 @@ fn rename_isr(back: [u8; 5], isr: u8) -> u8
 }
 
 fn rename_quorum(p: [u8; 5], back: [u8; 5], q: Quorum) -> Quorum
+    requires { ⌜ Inward back ⌝ }
     ensures { λ r. ⌜ r ≡ renameQuorum (newName p) (nameIn back) q ⌝ }
 {
     let l = q.leader;
@@ -59,6 +60,7 @@ fn rename_quorum(p: [u8; 5], back: [u8; 5], q: Quorum) -> Quorum
 }
 
 fn rename_request(p: [u8; 5], back: [u8; 5], q: Request) -> Request
+    requires { ⌜ Inward back ⌝ }
     ensures { λ r. ⌜ r ≡ renameRequest (newName p) (nameIn back) q ⌝ }
 {
     let l = q.leader;
@@ -70,6 +72,7 @@ fn rename_request(p: [u8; 5], back: [u8; 5], q: Request) -> Request
 
 // The whole block of a replica.
 fn rename_replica(p: [u8; 5], back: [u8; 5], q: Replica) -> Replica
+    requires { ⌜ Inward back ⌝ }
     ensures { λ r. ⌜ r ≡ renameReplica (newName p) (nameIn back) q ⌝ }
 {
     let l = q.leader;
@@ -86,6 +89,7 @@ fn rename_replica(p: [u8; 5], back: [u8; 5], q: Replica) -> Replica
 
 // The state with its requests renamed, and nothing else.
 fn rename_requests(p: [u8; 5], back: [u8; 5], s: State) -> State
+    requires { ⌜ Inward back ⌝ }
     ensures { λ r. ⌜ r ≡ withRequests s (table 16 (renamedRequestAt (newName p) (nameIn back) (s .requests))) ⌝ }
 {
     let mut t = s;
@@ -99,8 +103,7 @@ fn rename_requests(p: [u8; 5], back: [u8; 5], s: State) -> State
     t
 }
 
-// The state with the block of the replica that is named j from now on in place j, and nothing else renamed. The caller shows
-// that each old name is below five.
+// The state with the block of the replica that is named j from now on in place j, and nothing else renamed.
 fn rename_replicas(p: [u8; 5], back: [u8; 5], s: State) -> State
     requires { ⌜ Inward back ⌝ }
     ensures { λ r. ⌜ r ≡ withReplicas s (table 5 (renamedReplicaAt (newName p) (nameIn back) (s .replicas))) ⌝ }

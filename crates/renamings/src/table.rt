@@ -1,7 +1,6 @@
 // All 120 renamings of five places, in rising order: a line is a row, and holds the new names of replicas 0 to 4.
 ghost use mathlib.Core.Path.{_≡_};
 ghost use Prim.Native.Nat.{_<_};
-ghost use lib.ListN.{getD};
 ghost use Rattle.renamings.specs.Names.{row};
 
 const RENAMINGS: [u8; 600] = [
@@ -127,11 +126,18 @@ const RENAMINGS: [u8; 600] = [
     4, 3, 2, 1, 0,
 ];
 
-// What place j of row k holds. The caller shows that there are such a row and place.
-pub(crate) fn place(k: usize, j: usize) -> u8
+// Row k. The caller shows that there is one. The numbers are taken out once, and the five read off them.
+pub(crate) fn five(k: usize) -> [u8; 5]
     requires { ⌜ k < 120 ⌝ }
-    requires { ⌜ j < 5 ⌝ }
-    ensures { λ r. ⌜ r ≡ getD (row k) j 0 ⌝ }
+    ensures { λ r. ⌜ r ≡ row k ⌝ }
 {
-    RENAMINGS[5 * k + j]
+    let numbers = RENAMINGS;
+    let at = 5 * k;
+    [
+        numbers[at],
+        numbers[at + 1],
+        numbers[at + 2],
+        numbers[at + 3],
+        numbers[at + 4],
+    ]
 }

@@ -2,6 +2,7 @@ use borrow.Author.Needs.{needs}
 use Rattle.cluster.specs.State.{replicaCount}
 use Rattle.cluster.specs.RuleLaws.{rules-bounded}
 use Rattle.cluster.proofs.Owned.{shaped-of}
+use Rattle.renamings.specs.Names.{Inward}
 use Rattle.renamings.specs.CodeLaws.{inverted-inward, state-by}
 use Rattle.renamings.proofs.state.rename_state.Statement.{statement}
 use Rattle.renamings.proofs.state.rename_state.Tie as tie
@@ -9,15 +10,20 @@ use Rattle.renamings.proofs.state.rename_state.Tie as tie
 inverse-requires : tie.Need-inverse-requires
 inverse-requires c κs = search needs
 
+-- the old names are below five
+inward : (c : tie.After-inverse) → Inward (c .inverse .result)
+inward c =
+    let o = c .before in
+    rw (c .inverse .ensures) (inverted-inward (replicaCount (o .args .s .limits)) (o .args .p) (rules-bounded (o .args .s) (o .pre .0) .replicas) (o .pre .1))
+
 rename-quorum-requires : tie.Need-rename-quorum-requires
-rename-quorum-requires c κs = search needs
+rename-quorum-requires c κs = inward (c .before)
 
 rename-requests-requires : tie.Need-rename-requests-requires
-rename-requests-requires c κs = search needs
+rename-requests-requires c κs = inward (c .before .before)
 
 rename-replicas-requires : tie.Need-rename-replicas-requires
-rename-replicas-requires c κs =
-    let o = c .before .before .before .before in rw (c .before .before .before .inverse .ensures) (inverted-inward (replicaCount (o .args .s .limits)) (o .args .p) (rules-bounded (o .args .s) (o .pre .0) .replicas) (o .pre .1))
+rename-replicas-requires c κs = inward (c .before .before .before)
 
 returns : tie.Need-returns
 returns c =
