@@ -103,17 +103,17 @@ fn replicas_in_range(s: State) -> bool
 }
 
 // S2 of every request.
-fn requests_in_range(s: State) -> bool
-    requires { ⌜ Bounded s ⌝ }
-    ensures { λ r. ⌜ r ≡ allBelow (nextLeaderEpoch s) (requestInRangeAt (replicaCount (s .limits)) (s .requests)) ⌝ }
+fn requests_in_range(requests: [Request; 16], next: u8, count: u8) -> bool
+    requires { ⌜ next ≤ 16 ⌝ }
+    requires { ⌜ count ≤ 5 ⌝ }
+    ensures { λ r. ⌜ r ≡ allBelow next (requestInRangeAt count requests) ⌝ }
 {
-    let c = s.limits;
-    let n = s.next_leader_epoch as usize;
+    let n = next as usize;
     let mut e: usize = 0;
     while e < n {
-        let q = s.requests[e];
+        let q = requests[e];
         let l = q.leader;
-        if leader_and_isr_in_range(c.replica_count, l, q.isr) {
+        if leader_and_isr_in_range(count, l, q.isr) {
             e = e + 1;
         } else {
             return false;
@@ -133,7 +133,8 @@ pub(crate) fn rule_2(s: State) -> bool
     if !leader_and_isr_in_range(c.replica_count, l, q.isr) {
         return false;
     }
-    if !requests_in_range(s) {
+    let requests = s.requests;
+    if !requests_in_range(requests, s.next_leader_epoch, c.replica_count) {
         return false;
     }
     replicas_in_range(s)
@@ -181,14 +182,14 @@ pub(crate) fn rule_3(s: State) -> bool
 }
 
 // S4 of every request.
-fn request_leaders_in_isr(s: State) -> bool
-    requires { ⌜ Bounded s ⌝ }
-    ensures { λ r. ⌜ r ≡ allBelow (nextLeaderEpoch s) (requestLeaderInIsr (s .requests)) ⌝ }
+fn request_leaders_in_isr(requests: [Request; 16], next: u8) -> bool
+    requires { ⌜ next ≤ 16 ⌝ }
+    ensures { λ r. ⌜ r ≡ allBelow next (requestLeaderInIsr requests) ⌝ }
 {
-    let n = s.next_leader_epoch as usize;
+    let n = next as usize;
     let mut e: usize = 0;
     while e < n {
-        let q = s.requests[e];
+        let q = requests[e];
         let l = q.leader;
         if l.in_isr(q.isr) {
             e = e + 1;
@@ -207,7 +208,8 @@ pub(crate) fn rule_4(s: State) -> bool
     let q = s.quorum;
     let l = q.leader;
     if l.in_isr(q.isr) {
-        return request_leaders_in_isr(s);
+        let requests = s.requests;
+        return request_leaders_in_isr(requests, s.next_leader_epoch);
     }
     false
 }

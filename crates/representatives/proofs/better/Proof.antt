@@ -1,6 +1,4 @@
-use mathlib.Core.Bool.{Bool}
 use mathlib.Core.Path.{_≡_, sym, ap, ap₂, _∙_}
-use borrow.Author.Needs.{needs}
 use Rattle.cluster.specs.State.{replicaCount}
 use Rattle.logic.specs.Least.{better-yes, better-unfit, better-not-before}
 use Rattle.logic.specs.Order.{precedes}

@@ -9,7 +9,7 @@ use borrow.Author.Needs.{needs}
 use Rattle.parts.specs.Leader.{sameLeader}
 use Rattle.parts.specs.Epoch.{noEpoch, sameEpoch, epochUsed, requestPlace}
 use Rattle.parts.specs.EpochLaws.{used-place}
-use Rattle.cluster.specs.State.{nextLeaderEpoch, requestIn}
+use Rattle.cluster.specs.State.{requestIn}
 use Rattle.cluster.specs.RuleLaws.{matches-none, matches-used, matches-other}
 use Rattle.cluster.proofs.rules.replica_matches_request.Statement.{statement}
 use Rattle.cluster.proofs.rules.replica_matches_request.Tie as tie

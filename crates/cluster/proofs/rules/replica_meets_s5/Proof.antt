@@ -4,7 +4,6 @@ use mir.Syntax.{w8}
 use borrow.Author.Tests.{not-true, not-false}
 use borrow.Author.Needs.{needs}
 use Rattle.logic.specs.Tests.{every-no, every-yes, every-last}
-use Rattle.cluster.specs.State.{nextLeaderEpoch}
 use Rattle.cluster.specs.Rules.{replicaMeetsS5, replicaMatchesRequest}
 use Rattle.cluster.proofs.rules.replica_meets_s5.Statement.{statement}
 use Rattle.cluster.proofs.rules.replica_meets_s5.Tie as tie

@@ -9,13 +9,10 @@ use Rattle.cluster.proofs.rules.request_leaders_in_isr.Statement.{state
 use Rattle.cluster.proofs.rules.request_leaders_in_isr.Tie as tie
 
 abbrev Inv-loop : tie.InvT-loop
-Inv-loop s n e₀ e = (e ≤ n) × (allBelow e (requestLeaderInIsr (s .requests)) ≡ true)
+Inv-loop next requests n e₀ e = (e ≤ n) × (allBelow e (requestLeaderInIsr requests) ≡ true)
 
 abbrev μ-loop : tie.MeasureT-loop
-μ-loop s n e₀ e = n - e
-
-cast-n : tie.Need-cast-n Inv-loop μ-loop
-cast-n c = search needs
+μ-loop next requests n e₀ e = n - e
 
 loop-holds : tie.Need-loop-holds Inv-loop μ-loop
 loop-holds c = (omega arith, all-none _)
@@ -23,8 +20,8 @@ loop-holds c = (omega arith, all-none _)
 mul-q : tie.Need-mul-q Inv-loop μ-loop
 mul-q c = search needs
 
-element-copy-out-q : tie.Need-element-copy-out-q Inv-loop μ-loop
-element-copy-out-q c = search needs
+array-copy-out-q : tie.Need-array-copy-out-q Inv-loop μ-loop
+array-copy-out-q c = search needs
 
 in-isr-requires : tie.Need-in-isr-requires Inv-loop μ-loop
 in-isr-requires c κs = search needs
@@ -39,7 +36,7 @@ loop-again : tie.Need-loop-again Inv-loop μ-loop
 loop-again c = (omega arith, all-more _ _ (c .before .before .before .before .loop .inv .1) (sym (c .before .in-isr .ensures) ∙ c .if1 .taken))
 
 returns : tie.Need-returns Inv-loop μ-loop
-returns c = let s = c .before .before .before .before .before .args in all-fails _ (c .before .before .before .before .loop .e) (requestLeaderInIsr (s .t1 .requests)) (omega arith) (sym (c .before .in-isr .ensures) ∙ c .if1 .left)
+returns c = let s = c .before .before .before .before .before .args in all-fails _ (c .before .before .before .before .loop .e) (requestLeaderInIsr (s .t1)) (omega arith) (sym (c .before .in-isr .ensures) ∙ c .if1 .left)
 
 returns-2 : tie.Need-returns-2 Inv-loop μ-loop
 returns-2 c = all-done _ _ _ (omega arith) (omega arith) (c .before .loop .inv .1)
@@ -50,10 +47,9 @@ request-leaders-in-isr-spec =
     (tie.spec
     Inv-loop
     μ-loop
-    cast-n
     loop-holds
     mul-q
-    element-copy-out-q
+    array-copy-out-q
     in-isr-requires
     add-e
     loop-less

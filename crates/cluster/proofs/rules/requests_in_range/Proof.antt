@@ -4,19 +4,15 @@ use mathlib.Core.Path.{_≡_, sym, _∙_}
 use native.Mathlib.Omega.{arith}
 use borrow.Author.Needs.{needs}
 use Rattle.logic.specs.Tests.{allBelow, all-none, all-more, all-done, all-fails}
-use Rattle.cluster.specs.State.{replicaCount}
 use Rattle.cluster.specs.Rules.{requestInRangeAt}
 use Rattle.cluster.proofs.rules.requests_in_range.Statement.{statement}
 use Rattle.cluster.proofs.rules.requests_in_range.Tie as tie
 
 abbrev Inv-loop : tie.InvT-loop
-Inv-loop s c n e₀ e = (e ≤ n) × (allBelow e (requestInRangeAt (replicaCount (s .limits)) (s .requests)) ≡ true)
+Inv-loop next count requests n e₀ e = (e ≤ n) × (allBelow e (requestInRangeAt count requests) ≡ true)
 
 abbrev μ-loop : tie.MeasureT-loop
-μ-loop s c n e₀ e = n - e
-
-cast-n : tie.Need-cast-n Inv-loop μ-loop
-cast-n c = search needs
+μ-loop next count requests n e₀ e = n - e
 
 loop-holds : tie.Need-loop-holds Inv-loop μ-loop
 loop-holds c = (omega arith, all-none _)
@@ -24,8 +20,8 @@ loop-holds c = (omega arith, all-none _)
 mul-q : tie.Need-mul-q Inv-loop μ-loop
 mul-q c = search needs
 
-element-copy-out-q : tie.Need-element-copy-out-q Inv-loop μ-loop
-element-copy-out-q c = search needs
+array-copy-out-q : tie.Need-array-copy-out-q Inv-loop μ-loop
+array-copy-out-q c = search needs
 
 leader-and-isr-in-range-requires : tie.Need-leader-and-isr-in-range-requires Inv-loop μ-loop
 leader-and-isr-in-range-requires c κs = search needs
@@ -40,7 +36,7 @@ loop-again : tie.Need-loop-again Inv-loop μ-loop
 loop-again c = (omega arith, all-more _ _ (c .before .before .before .before .loop .inv .1) (sym (c .before .leader-and-isr-in-range .ensures) ∙ c .if1 .taken))
 
 returns : tie.Need-returns Inv-loop μ-loop
-returns c = let s = c .before .before .before .before .before .before .args in all-fails _ (c .before .before .before .before .loop .e) (requestInRangeAt (replicaCount (s .t1 .limits)) (s .t1 .requests)) (omega arith) (sym (c .before .leader-and-isr-in-range .ensures) ∙ c .if1 .left)
+returns c = let s = c .before .before .before .before .before .args in all-fails _ (c .before .before .before .before .loop .e) (requestInRangeAt (s .count) (s .t1)) (omega arith) (sym (c .before .leader-and-isr-in-range .ensures) ∙ c .if1 .left)
 
 returns-2 : tie.Need-returns-2 Inv-loop μ-loop
 returns-2 c = all-done _ _ _ (omega arith) (omega arith) (c .before .loop .inv .1)
@@ -51,10 +47,9 @@ requests-in-range-spec =
     (tie.spec
     Inv-loop
     μ-loop
-    cast-n
     loop-holds
     mul-q
-    element-copy-out-q
+    array-copy-out-q
     leader-and-isr-in-range-requires
     add-e
     loop-less

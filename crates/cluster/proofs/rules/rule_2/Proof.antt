@@ -19,7 +19,7 @@ requests-in-range-requires c κs = search needs
 returns-2 : tie.Need-returns-2
 unfolding rule2
 returns-2 c = every-no _ _ (sym (c .before .requests-in-range .ensures) ∙ not-true _ (c .if2 .taken))
-    ∙ every-yes _ _ (sym (c .before .before .before .leader-and-isr-in-range .ensures) ∙ not-false _ (c .before .before .if1 .left))
+    ∙ every-yes _ _ (sym (c .before .before .before .before .leader-and-isr-in-range .ensures) ∙ not-false _ (c .before .before .before .if1 .left))
 
 replicas-in-range-requires : tie.Need-replicas-in-range-requires
 replicas-in-range-requires c κs = search needs
@@ -28,7 +28,7 @@ returns-3 : tie.Need-returns-3
 unfolding rule2
 returns-3 c = c .replicas-in-range .ensures ∙ every-last _
     ∙ every-yes _ _ (sym (c .before .before .requests-in-range .ensures) ∙ not-false _ (c .before .if2 .left))
-    ∙ every-yes _ _ (sym (c .before .before .before .before .leader-and-isr-in-range .ensures) ∙ not-false _ (c .before .before .before .if1 .left))
+    ∙ every-yes _ _ (sym (c .before .before .before .before .before .leader-and-isr-in-range .ensures) ∙ not-false _ (c .before .before .before .before .if1 .left))
 
 pub rule-2-spec : {M : Type 1} → statement M
 rule-2-spec =

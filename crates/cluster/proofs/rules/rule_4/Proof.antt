@@ -12,7 +12,7 @@ request-leaders-in-isr-requires c κs = search needs
 
 returns : tie.Need-returns
 unfolding rule4
-returns c = rw (sym (c .before .before .in-isr .ensures) ∙ c .before .if1 .taken) (c .request-leaders-in-isr .ensures)
+returns c = rw (sym (c .before .before .before .in-isr .ensures) ∙ c .before .before .if1 .taken) (c .request-leaders-in-isr .ensures)
 
 returns-2 : tie.Need-returns-2
 unfolding rule4
