@@ -1,19 +1,22 @@
 -- The loops of weak and strong ISR take a few numbers out of the state, and go by these. They ask what the definition asks.
 -- Assumes nothing.
-use Prim.Native.Nat.{ℕ, zero, suc, _<_}
-use mathlib.Core.Path.{_≡_, refl}
-use mathlib.Core.Bool.{Bool, true, false, cond}
+use Prim.Native.Nat.{ℕ, zero, suc, _≤_, _<_}
+use mathlib.Core.Path.{_≡_, refl, ap}
+use mathlib.Core.Bool.{Bool, true, false, not, cond}
 use mathlib.Core.Option.{Option, none}
 use native.Mathlib.Omega.{arith}
-use Rattle.logic.specs.Search.{orElse, firstBelow, firstThird}
+use lib.Dec.{eqb}
+use borrow.Author.Tests.{eqb-true}
+use Rattle.logic.specs.Search.{orElse, firstBelow, passing, passing-no, firstThird}
 use Rattle.parts.specs.Isr.{member}
 use Rattle.parts.specs.Leader.{names}
+use Rattle.replica.specs.LogLaws.{hold-same-record-iff}
 use Rattle.cluster.specs.declared.State.{State}
 use Rattle.cluster.specs.State.{replicaAt}
 use Rattle.cluster.specs.Actions.{replicaPresumesLeadership}
 use Rattle.questions.specs.declared.Property.{Property}
 use Rattle.questions.specs.declared.Property.the-variants.{WeakIsr, StrongIsr}
-use Rattle.questions.specs.Isr.{isrAsked, offsetsAsked, differAt}
+use Rattle.questions.specs.Isr.{isrAsked, isAsked, offsetsAsked, differAt}
 
 -- the ISR that m is a member of, by r's own and the quorum's
 unfoldable pub isrOf : Property → ℕ → ℕ → ℕ
@@ -25,13 +28,26 @@ pub below-cond : (b : Bool) (n m : ℕ) → m < cond b n 0 → (b ≡ true) × (
 below-cond true n m l = (refl, l)
 below-cond false n m l = absurd (omega arith)
 
--- searches of nothing find nothing
-first-nowhere : {A : Type 0} (n : ℕ) (f : ℕ → Option A) → ((i : ℕ) → f i ≡ none) → firstBelow n f ≡ none
+-- or where another test passes: still below the number
+below-other : (b c : Bool) (n m : ℕ) → m < cond b 0 (cond c n 0) → m < n
+below-other true c n m l = absurd (omega arith)
+below-other false c n m l = below-cond c n m l .1
+
+-- a search that finds nothing at any place below n
+first-nowhere : {A : Type 0} (n : ℕ) (f : ℕ → Option A) → ((i : ℕ) → i < n → f i ≡ none) → firstBelow n f ≡ none
 unfolding firstBelow orElse
 first-nowhere zero f h = refl
-first-nowhere (suc n) f h = rw (first-nowhere n f h) (h n)
+first-nowhere (suc n) f h = rw (first-nowhere n f (λ i l. h i (omega arith))) (h n (omega arith))
 
 module _ (property : Property) (s : State) (r : ℕ) where
+  -- how many offsets of r and m the code compares where r presumes
+  abbrev pub compared : ℕ → ℕ
+  compared m = cond (eqb m r) 0 (cond (member (isrOf property (replicaAt s r .isr) (s .quorum .isr)) m) (replicaAt s r .hw) 0)
+
+  -- each of them is below r's hw
+  pub compared-below : (m x : ℕ) → x < compared m → x < replicaAt s r .hw
+  compared-below m x = below-other (eqb m r) (member (isrOf property (replicaAt s r .isr) (s .quorum .isr)) m) (replicaAt s r .hw) x
+
   asked-of : isrAsked property s r ≡ isrOf property (replicaAt s r .isr) (s .quorum .isr)
   unfolding isrAsked isrOf
   asked-of = go property
@@ -40,16 +56,42 @@ module _ (property : Property) (s : State) (r : ℕ) where
       go WeakIsr = refl
       go StrongIsr = refl
 
-  -- of an r that presumes: the offsets below its hw, where m is in that ISR
-  pub offsets-of : (m : ℕ) → names (replicaAt s r .leader) r ≡ true
-      → offsetsAsked property s r m ≡ cond (member (isrOf property (replicaAt s r .isr) (s .quorum .isr)) m) (replicaAt s r .hw) 0
+  -- of an r that does not presume no offsets are asked about
+  none-asked : (m : ℕ) → names (replicaAt s r .leader) r ≡ false → offsetsAsked property s r m ≡ 0
   unfolding offsetsAsked replicaPresumesLeadership
-  offsets-of m h = rw (h, asked-of)
+  none-asked m h = rw h
 
-  -- of an r that does not presume: none
-  no-offsets : (m : ℕ) → names (replicaAt s r .leader) r ≡ false → offsetsAsked property s r m ≡ 0
+  -- of one that presumes, those of another m that are compared
+  others-asked : (m : ℕ) → names (replicaAt s r .leader) r ≡ true → eqb m r ≡ false → offsetsAsked property s r m ≡ compared m
   unfolding offsetsAsked replicaPresumesLeadership
-  no-offsets m h = rw h
+  others-asked m h e = rw (h, asked-of, e)
+
+  -- so what is compared is asked about
+  pub compared-asked : (m x : ℕ) → names (replicaAt s r .leader) r ≡ true → x < compared m → x < offsetsAsked property s r m
+  compared-asked m x h = go (eqb m r) refl
+    where
+      go : (b : Bool) → eqb m r ≡ b → x < compared m → x < offsetsAsked property s r m
+      go true e l = absurd (let z : x < 0 = (rw e at l) in omega arith)
+      go false e l = rw (others-asked m h e) l
+
+  -- r's log agrees with itself below r's hw, which is at most its end
+  agrees-with-itself : replicaAt s r .hw ≤ replicaAt s r .end → (x : ℕ) → x < offsetsAsked property s r r → differAt s r r x ≡ false
+  unfolding differAt offsetsAsked
+  agrees-with-itself h x l =
+      let below : x < replicaAt s r .hw = below-cond (isAsked property s r r) (replicaAt s r .hw) x l .1 in
+      let k : x < replicaAt s r .end = omega arith in
+      ap not (hold-same-record-iff (replicaAt s r) (replicaAt s r) x .1 (k, k, refl))
+
+  -- the end of the offsets' loop: nothing that is asked about m fails
+  pub offsets-done : (m : ℕ) → names (replicaAt s r .leader) r ≡ true → replicaAt s r .hw ≤ replicaAt s r .end
+      → firstBelow (compared m) (passing (differAt s) r m) ≡ none
+      → firstThird (offsetsAsked property s) (differAt s) r m ≡ none
+  unfolding firstThird
+  offsets-done m h k p = go (eqb m r) refl
+    where
+      go : (b : Bool) → eqb m r ≡ b → firstBelow (offsetsAsked property s r m) (passing (differAt s) r m) ≡ none
+      go true e = rw (eqb-true m r e) (first-nowhere _ _ (λ x l. passing-no (differAt s) r r x (agrees-with-itself k x l)))
+      go false e = rw (others-asked m h e) p
 
   -- the end of the members' loop, which goes to n where r presumes, and else to 0: no member below n fails
   pub members-done : (n m : ℕ) → m ≡ cond (names (replicaAt s r .leader) r) n 0
@@ -61,4 +103,4 @@ module _ (property : Property) (s : State) (r : ℕ) where
       go : (b : Bool) → names (replicaAt s r .leader) r ≡ b → m ≡ cond b n 0
           → firstBelow n (firstThird (offsetsAsked property s) (differAt s) r) ≡ none
       go true h k = rw k at p
-      go false h k = first-nowhere n _ (λ i. rw (no-offsets i h))
+      go false h k = first-nowhere n _ (λ i l. rw (none-asked i h))

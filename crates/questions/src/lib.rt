@@ -1,5 +1,5 @@
 // Three questions about a state: weak ISR, strong ISR, and what action it offers; and what it exposes.
-mod isr;
+pub mod isr;
 mod search;
 
 ghost use mathlib.Core.Path.{_≡_};
@@ -65,14 +65,13 @@ pub fn check_isr(property: Property, s: State) -> IsrAnswer
     let mut answer = IsrAnswer::with_zeros(ACCEPTED, true);
     let mut r: u8 = 0;
     'leaders: while r < n {
-        let p = s.replicas[r as usize];
-        let leader = p.leader;
-        let isr = isr::isr_asked(property, p.isr, quorum.isr);
-        let members = isr::where_presuming(leader, r, n);
+        let members = isr::where_presuming(s.replicas[r as usize], r, n);
         let mut m: u8 = 0;
         while m < members {
+            let p = s.replicas[r as usize];
             let q = s.replicas[m as usize];
-            let offsets = isr::offsets_asked(isr, m, p.hw);
+            let isr = isr::isr_asked(property, p.isr, quorum.isr);
+            let offsets = isr::offsets_asked(isr, r, m, p.hw);
             let mut x: u8 = 0;
             while x < offsets {
                 let own = p.log[x as usize];
@@ -132,8 +131,7 @@ pub fn exposed(s: State) -> u8
     let mut r: u8 = 0;
     while r < n {
         let p = s.replicas[r as usize];
-        let leader = p.leader;
-        most = parts::larger(isr::where_presuming(leader, r, p.hw), most);
+        most = parts::larger(isr::where_presuming(p, r, p.hw), most);
         r = r + 1;
     }
     most

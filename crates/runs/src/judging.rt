@@ -1,16 +1,16 @@
-// The verdict so far, as a run is judged.
+// How far a run has come, as it is judged.
 ghost use mathlib.Core.Path.{_≡_};
 ghost use mathlib.Core.Bool.{true};
 ghost use Prim.Native.Nat.{_≤_};
 ghost use Rattle.cluster.specs.State.{zeroState};
 ghost use Rattle.cluster.specs.Rules.{rules};
 ghost use Rattle.questions.specs.Isr.{askIsr};
-ghost use Rattle.runs.specs.Run.{longestRun, verdictOf};
-ghost use Rattle.runs.specs.Judging.{begun, refusedBy, failedAt, after};
+ghost use Rattle.questions.specs.Exposed.{exposed};
+ghost use Rattle.runs.specs.Run.{recordWidth, longestRun, verdictOf};
+ghost use Rattle.runs.specs.Judging.{refusedBy, failedAt, progressOf, soFar, counted};
 use crate::RECORD_WIDTH;
 use crate::Verdict;
 use cluster::State;
-use parts::refusal::ACCEPTED;
 use questions::Property;
 
 // How many actions were accepted when a property first failed. Where that is known it stays, and the state is not asked. The
@@ -28,6 +28,68 @@ fn failed_at(property: Property, known: usize, s: State, count: usize) -> usize
     count
 }
 
+// How far a run has come beside its last state: how many actions were accepted; the byte where the next record starts; how many
+// actions were accepted when weak ISR, and when strong ISR, first failed, or 0; the greatest high watermark of any presuming
+// replica so far. The state stands apart from it, so that the two change in place.
+pub(crate) struct Progress {
+    pub(crate) accepted: usize,
+    pub(crate) at: usize,
+    pub(crate) weak: usize,
+    pub(crate) strong: usize,
+    pub(crate) exposed: u8,
+}
+
+impl Progress {
+    // Before the first action. The caller shows that the fresh state meets the rules.
+    pub(crate) fn begun(fresh: State) -> Progress
+        requires { ⌜ rules fresh ≡ true ⌝ }
+        ensures { λ r. ⌜ r ≡ progressOf 0 recordWidth 0 0 (exposed fresh) ⌝ }
+    {
+        Progress {
+            accepted: 0,
+            at: RECORD_WIDTH,
+            weak: 0,
+            strong: 0,
+            exposed: questions::exposed(fresh),
+        }
+    }
+
+    // One accepted action more, which handed back a state; what that exposes is left to the caller. The caller shows that the
+    // state meets the rules, and that no count is past the longest run.
+    pub(crate) fn after(self, next: State) -> Progress
+        requires { ⌜ rules next ≡ true ⌝ }
+        requires { ⌜ self .accepted ≤ longestRun ⌝ }
+        requires { ⌜ self .at ≤ longestRun ⌝ }
+        ensures { λ r. ⌜ r ≡ counted self next ⌝ }
+    {
+        let count = self.accepted + 1;
+        let weak = failed_at(Property::WeakIsr, self.weak, next, count);
+        let strong = failed_at(Property::StrongIsr, self.strong, next, count);
+        Progress {
+            accepted: count,
+            at: self.at + RECORD_WIDTH,
+            weak: weak,
+            strong: strong,
+            exposed: self.exposed,
+        }
+    }
+
+    // The verdict where the run stops by this number, with its last state.
+    pub(crate) fn verdict(self, number: u8, last: State) -> Verdict
+        ensures { λ r. ⌜ r ≡ refusedBy (soFar self last) number ⌝ }
+    {
+        Verdict {
+            accepted: self.accepted,
+            refusal: number,
+            at: self.at,
+            weak: self.weak,
+            strong: self.strong,
+            exposed: self.exposed,
+            state: last,
+        }
+    }
+}
+
 impl Verdict {
     // The verdict of a run that is refused by its length or its configuration.
     pub(crate) fn unopened(number: u8) -> Verdict
@@ -42,54 +104,6 @@ impl Verdict {
             strong: 0,
             exposed: 0,
             state: zero,
-        }
-    }
-
-    // Before the first action. The caller shows that the fresh state meets the rules.
-    pub(crate) fn begun(fresh: State) -> Verdict
-        requires { ⌜ rules fresh ≡ true ⌝ }
-        ensures { λ r. ⌜ r ≡ begun fresh ⌝ }
-    {
-        Verdict {
-            accepted: 0,
-            refusal: ACCEPTED,
-            at: RECORD_WIDTH,
-            weak: 0,
-            strong: 0,
-            exposed: questions::exposed(fresh),
-            state: fresh,
-        }
-    }
-
-    // Stopped by this number.
-    pub(crate) fn refused_by(self, number: u8) -> Verdict
-        ensures { λ r. ⌜ r ≡ refusedBy self number ⌝ }
-    {
-        let mut v = self;
-        v.refusal = number;
-        v
-    }
-
-    // One accepted action more, which handed back a state. The caller shows that it meets the rules, and that no count is past
-    // the longest run.
-    pub(crate) fn after(self, next: State) -> Verdict
-        requires { ⌜ rules next ≡ true ⌝ }
-        requires { ⌜ self .accepted ≤ longestRun ⌝ }
-        requires { ⌜ self .at ≤ longestRun ⌝ }
-        ensures { λ r. ⌜ r ≡ after self next ⌝ }
-    {
-        let count = self.accepted + 1;
-        let weak = failed_at(Property::WeakIsr, self.weak, next, count);
-        let strong = failed_at(Property::StrongIsr, self.strong, next, count);
-        let exposed = parts::larger(self.exposed, questions::exposed(next));
-        Verdict {
-            accepted: count,
-            refusal: ACCEPTED,
-            at: self.at + RECORD_WIDTH,
-            weak: weak,
-            strong: strong,
-            exposed: exposed,
-            state: next,
         }
     }
 }

@@ -9,10 +9,12 @@ ghost use lib.ListN.{length};
 ghost use Rattle.cluster.specs.State.{tidy};
 ghost use Rattle.cluster.specs.Rules.{rules};
 ghost use Rattle.runs.specs.Run.{recordWidth, longestRun, recordsOf, traceFrom, verdictFrom, judge};
+use crate::judging::Progress;
 use cluster::State;
 use parts::refusal::ACCEPTED;
 use parts::refusal::RUN_TOO_LONG;
 use parts::refusal::TOO_SHORT;
+use questions::isr;
 
 // How many bytes a record has.
 const RECORD_WIDTH: usize = 6;
@@ -53,7 +55,8 @@ pub fn judge(run: &[u8]) -> Verdict
 
 // The verdict from the configuration's fresh state on. The caller shows that the run is neither too long nor too short, and that
 // the state meets the rules and is tidy. Each record goes to its reader as its own part of the run; the rules are not tested
-// and no room is tidied again, since an accepted action keeps both.
+// and no room is tidied again, since an accepted action keeps both. What a state exposes is asked here, replica by replica: as an
+// argument of `questions::exposed` the state would be copied.
 fn judge_actions(run: &[u8], fresh: State) -> Verdict
     requires { ⌜ length (now run) ≤ longestRun ⌝ }
     requires { ⌜ recordWidth ≤ length (now run) ⌝ }
@@ -61,18 +64,27 @@ fn judge_actions(run: &[u8], fresh: State) -> Verdict
     requires { ⌜ tidy fresh ≡ fresh ⌝ }
     ensures { λ r. ⌜ r ≡ verdictFrom fresh (traceFrom fresh recordWidth (recordsOf (now (run .entry)))) ⌝ }
 {
-    let mut v = Verdict::begun(fresh);
-    while v.at < run.len() {
-        let at = v.at;
+    let mut state = fresh;
+    let mut progress = Progress::begun(fresh);
+    while progress.at < run.len() {
+        let at = progress.at;
         if run.len() - at < RECORD_WIDTH {
-            return v.refused_by(TOO_SHORT);
+            return progress.verdict(TOO_SHORT, state);
         }
-        let state = v.state;
         let outcome = record::act_on(state, &run[at..at + RECORD_WIDTH]);
         if outcome.refusal != ACCEPTED {
-            return v.refused_by(outcome.refusal);
+            return progress.verdict(outcome.refusal, state);
         }
-        v = v.after(outcome.state);
+        state = outcome.state;
+        progress = progress.after(state);
+        let c = state.limits;
+        let n = c.replica_count;
+        let mut r: u8 = 0;
+        while r < n {
+            let p = state.replicas[r as usize];
+            progress.exposed = parts::larger(progress.exposed, isr::where_presuming(p, r, p.hw));
+            r = r + 1;
+        }
     }
-    v
+    progress.verdict(ACCEPTED, state)
 }
