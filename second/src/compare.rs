@@ -1,0 +1,140 @@
+//! The comparison of the proved library with the second implementation.
+//!
+//! compare [--seed N] [--scale K | --soak] [--only CLASS]
+//! compare --runcheck PATH [--seed N] [--count N]
+
+mod both;
+mod classes;
+mod explore;
+mod programs;
+mod properties;
+
+use both::Both;
+use harness::random::Random;
+use std::process::exit;
+use std::time::Instant;
+
+/// Scale 1 is for every change; the soak is for at least a million random runs.
+const SOAK_SCALE: usize = 10;
+
+type Class = (&'static str, fn(&mut Both, usize) -> String);
+
+const CLASSES: [Class; 8] = [
+    ("fresh", classes::fresh_states),
+    ("states", classes::any_states),
+    ("images", classes::state_images),
+    ("renamings", classes::all_renamings),
+    ("damaged", classes::damaged_runs),
+    ("runs", classes::random_runs),
+    ("explore", explore::explore),
+    ("properties", properties::properties),
+];
+
+struct Options {
+    seed: u64,
+    scale: usize,
+    count: u64,
+    only: Option<String>,
+    runcheck: Option<String>,
+}
+
+fn usage() -> ! {
+    let names: Vec<&str> = CLASSES.iter().map(|class| class.0).collect();
+    println!("compare [--seed N] [--scale K | --soak] [--only CLASS]");
+    println!("compare --runcheck PATH [--seed N] [--count N]");
+    println!("classes: {}", names.join(", "));
+    exit(2)
+}
+
+fn number<T: std::str::FromStr>(text: Option<String>) -> T {
+    match text.and_then(|text| text.parse().ok()) {
+        Some(value) => value,
+        None => usage(),
+    }
+}
+
+fn options() -> Options {
+    let mut options = Options {
+        seed: 1,
+        scale: 1,
+        count: 3000,
+        only: None,
+        runcheck: None,
+    };
+    let mut words = std::env::args().skip(1);
+    while let Some(word) = words.next() {
+        match word.as_str() {
+            "--seed" => options.seed = number(words.next()),
+            "--scale" => options.scale = number(words.next()),
+            "--soak" => options.scale = SOAK_SCALE,
+            "--count" => options.count = number(words.next()),
+            "--only" => options.only = words.next(),
+            "--runcheck" => options.runcheck = words.next(),
+            _ => usage(),
+        }
+    }
+    let known = |name: &String| CLASSES.iter().any(|class| class.0 == name);
+    if options.scale == 0 || !options.only.iter().all(known) {
+        usage();
+    }
+    options
+}
+
+fn main() {
+    let options = options();
+    println!("seed {}, scale {}", options.seed, options.scale);
+    let good = match &options.runcheck {
+        Some(path) => match programs::check_program(path, options.seed, options.count) {
+            Ok(good) => good,
+            Err(error) => {
+                println!("{}: {}", path, error);
+                false
+            }
+        },
+        None => compare_all(&options),
+    };
+    exit(if good { 0 } else { 1 });
+}
+
+/// Compares class by class, each with a seed of its own; true when all went well.
+fn compare_all(options: &Options) -> bool {
+    let mut total = Both::new(Random::new(options.seed));
+    for (name, class) in CLASSES.iter() {
+        if options.only.iter().any(|only| only != name) {
+            continue;
+        }
+        let start = Instant::now();
+        let mut both = Both::new(Random::named(options.seed, name));
+        let line = class(&mut both, options.scale);
+        println!(
+            "{}; compared {}, properties {}, differences {}, {:.1} s",
+            line,
+            both.compared,
+            both.tested,
+            both.differences,
+            start.elapsed().as_secs_f64()
+        );
+        total.add(&both);
+    }
+    let all_met = options.only.is_some() || all_numbers_met(&total);
+    println!(
+        "single actions {}, properties tested {}",
+        total.actions, total.tested
+    );
+    println!(
+        "compare: {} compared, {} differences",
+        total.compared, total.differences
+    );
+    all_met && total.differences == 0
+}
+
+/// A comparison that never meets a number does not test it.
+fn all_numbers_met(total: &Both) -> bool {
+    let missing: Vec<usize> = (0..28).filter(|number| total.met[*number] == 0).collect();
+    if missing.is_empty() {
+        println!("numbers 0 to 27 all met");
+    } else {
+        println!("numbers never met: {:?}", missing);
+    }
+    missing.is_empty()
+}
