@@ -12,8 +12,8 @@ use lib.ListN.{length, getD}
 use Rattle.logic.specs.Concat.{concatBelow}
 use Rattle.logic.specs.Maps.{map-table}
 use Rattle.logic.specs.Table.{table, getD-table, table-cong}
-use Rattle.parts.specs.Isr.{member, bit}
-use Rattle.parts.specs.IsrLaws.{below-five, isrOf-cong, member-low}
+use Rattle.parts.specs.Isr.{member, bit, isrOf}
+use Rattle.parts.specs.IsrLaws.{below-five, isrOf-cong, member-low, member-none}
 use Rattle.replica.specs.declared.Replica.{Replica}
 use Rattle.cluster.specs.declared.Request.{Request}
 use Rattle.cluster.specs.declared.State.{State}
@@ -99,6 +99,11 @@ member-bit isr i h = rw (member-low isr i h) (go (isr / 2 ^ i % 2) (mod-lt (isr 
     go zero l = refl
     go (suc zero) l = refl
     go (suc (suc r)) l = absurd (omega arith)
+
+-- the empty ISR stays empty
+pub rename-none : (from : ℕ → ℕ) → 0 ≡ renameIsr from 0
+unfolding renameIsr isrOf
+rename-none from = rw (member-none (from 0), member-none (from 1), member-none (from 2), member-none (from 3), member-none (from 4)) refl
 
 -- ---- the old names as five numbers
 inverted-at : (p : List ℕ) (j : ℕ) → j < 5 → nameIn (inverted p) j ≡ oldName p j

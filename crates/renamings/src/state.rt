@@ -34,11 +34,14 @@ fn member_bit(isr: u8, i: u8) -> u8
     (isr >> i) % 2
 }
 
-// The ISR with each member by its new name.
+// The ISR with each member by its new name. An empty one, as unused room has it, stays empty.
 fn rename_isr(back: [u8; 5], isr: u8) -> u8
     requires { ⌜ Inward back ⌝ }
     ensures { λ r. ⌜ r ≡ renameIsr (nameIn back) isr ⌝ }
 {
+    if isr == 0 {
+        return 0;
+    }
     let a = member_bit(isr, back[0]);
     let b = member_bit(isr, back[1]);
     let c = member_bit(isr, back[2]);
