@@ -2,9 +2,9 @@
 //! in turn on the same inputs, through the same flat functions. A ratio is the second's time over
 //! the proved's: 1.0 or more means that the proved code is at least as fast.
 //!
-//! The inputs are split into parts of about a millisecond. Each part is timed on both sides in every
-//! round, and the best or the median of its rounds counts, so that other work on the same processor
-//! disturbs little.
+//! The inputs are split into parts of about a millisecond. Each part is timed on both sides in
+//! every round, and the best or the median of its rounds counts, so that other work on the same
+//! processor disturbs little.
 
 use harness::course;
 use harness::draw;
@@ -49,8 +49,8 @@ fn timed(work: Work, inputs: &[Vec<u8>]) -> (f64, u64) {
     (start.elapsed().as_secs_f64(), sum)
 }
 
-/// Both sides on each part in every round, each side first in every other round. Their answers must
-/// agree.
+/// Both sides on each part in every round, each side first in every other round. The numbers made
+/// from their answers must agree.
 fn measure(parts: &[&[Vec<u8>]], proved: Work, second: Work) -> Vec<Part> {
     let mut times: Vec<Part> = parts.iter().map(|_| Part::default()).collect();
     for round in 0..ROUNDS {
@@ -232,6 +232,42 @@ fn length_lines(which: &str, r: u8, runs: &[Vec<u8>]) {
     }
 }
 
+fn print_speeds(random: &mut Random) {
+    println!("| measure | proved, per second | second, per second | ratio, best | ratio, median |");
+    println!("|---|---|---|---|---|");
+    for r in [3, 5] {
+        let runs = mixed_runs(random, r, 150);
+        judged_line(
+            &format!("actions judged, 200 to 2,000 a run, R {}", r),
+            &runs,
+            8,
+        );
+    }
+    for r in [3, 5] {
+        let runs = longest_runs(random, r, 15);
+        judged_line(&format!("actions judged, 10,921 a run, R {}", r), &runs, 1);
+    }
+    let full = full_states(random, 1_000);
+    let sides: (Ask, Ask) = (proved::representative, flat::representative);
+    ask_line(
+        "representatives, R 5, full logs",
+        full.len(),
+        &parts(&full, 40),
+        sides,
+    );
+    image_lines("R 5, full logs", &full_states(random, 20_000));
+    image_lines("states of runs", &reached_states(random, 20_000));
+}
+
+fn print_lengths(random: &mut Random) {
+    println!("| runs | actions | proved | second |");
+    println!("|---|---|---|---|");
+    for r in [3, 5] {
+        length_lines("ISR changes", r, &changing_runs(random, r, 6));
+        length_lines("mixed", r, &longest_runs(random, r, 6));
+    }
+}
+
 fn main() {
     let mut random = Random::named(SEED, "bench");
     println!(
@@ -241,35 +277,7 @@ fn main() {
     println!(
         "Ratio: the second's time over the proved's, of the best rounds and of the medians.\n"
     );
-    println!("| measure | proved, per second | second, per second | ratio, best | ratio, median |");
-    println!("|---|---|---|---|---|");
-    for r in [3, 5] {
-        let runs = mixed_runs(&mut random, r, 150);
-        judged_line(
-            &format!("actions judged, 200 to 2,000 a run, R {}", r),
-            &runs,
-            8,
-        );
-    }
-    for r in [3, 5] {
-        let runs = longest_runs(&mut random, r, 15);
-        judged_line(&format!("actions judged, 10,921 a run, R {}", r), &runs, 1);
-    }
-    let full = full_states(&mut random, 1_000);
-    let representatives: (Ask, Ask) = (proved::representative, flat::representative);
-    ask_line(
-        "representatives, R 5, full logs",
-        full.len(),
-        &parts(&full, 40),
-        representatives,
-    );
-    image_lines("R 5, full logs", &full_states(&mut random, 20_000));
-    image_lines("states of runs", &reached_states(&mut random, 20_000));
+    print_speeds(&mut random);
     println!("\nNanoseconds per action judged, by the length of the run (best rounds).\n");
-    println!("| runs | actions | proved | second |");
-    println!("|---|---|---|---|");
-    for r in [3, 5] {
-        length_lines("ISR changes", r, &changing_runs(&mut random, r, 6));
-        length_lines("mixed", r, &longest_runs(&mut random, r, 6));
-    }
+    print_lengths(&mut random);
 }

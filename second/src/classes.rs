@@ -169,8 +169,8 @@ pub fn any_states(both: &mut Both, scale: usize) -> String {
     )
 }
 
-/// Any bytes, small numbers, states that nearly meet the rules and states that do, some with rubbish
-/// in unused room.
+/// Any bytes, small numbers, states that nearly meet the rules and states that do, some with
+/// rubbish in unused room.
 fn drawn_states(both: &mut Both) -> [Flat; 7] {
     let (valid, reached) = (draw::valid_state(&mut both.random), reached_state(both));
     let random = &mut both.random;

@@ -15,7 +15,7 @@ use std::process::exit;
 use std::time::Instant;
 
 /// Scale 1 is for every change; the soak is for at least a million random runs.
-const SOAK_SCALE: usize = 10;
+const SOAK_SCALE: usize = 7;
 
 type Class = (&'static str, fn(&mut Both, usize) -> String);
 

@@ -418,8 +418,8 @@ fn refused_action(random: &mut Random, state: &Flat) -> Action {
 }
 
 /// A run of exactly so many actions, all accepted; R is at least 2. What a run can use up (epochs,
-/// ids, room in logs) is spread over its length, with changes of a leader's ISR in between. Where no
-/// action is left, it goes back to where the ISR could change, and there changes it for a while.
+/// ids, room in logs) is spread over its length, with changes of a leader's ISR in between. Where
+/// no action is left, it goes back to where the ISR could change, and there changes it for a while.
 pub fn accepted_run(random: &mut Random, configuration: [u8; 4], actions: usize) -> Course {
     let [r, l, _, x] = configuration;
     let limited = usize::from(r) * usize::from(l) * usize::from(x + 1) / 3;

@@ -113,8 +113,8 @@ fn change_action(random: &mut Random, run: &mut [u8]) {
     }
 }
 
-/// A run about as long as a run may be, made from a shorter one: exactly the longest, one byte more,
-/// or well over.
+/// A run about as long as a run may be, made from a shorter one: exactly the longest, one byte less
+/// or more, or well over.
 pub fn lengthened_run(random: &mut Random, run: &[u8]) -> Vec<u8> {
     let length = match random.below(6) {
         0 | 1 => LONGEST_RUN,

@@ -1,5 +1,5 @@
-//! Where things stand in a flat state and in a run, and the few things that the comparison works out
-//! for itself, straight on these bytes: unused room, renamings, the operands that a kind uses.
+//! Where things stand in a flat state and in a run, and the few things that the comparison works
+//! out for itself, straight on these bytes: unused room, renamings, the operands that a kind uses.
 
 pub const STATE: usize = 226;
 pub const VERDICT: usize = 250;
