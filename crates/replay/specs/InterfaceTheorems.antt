@@ -27,7 +27,8 @@ flat-taken s =
     let w = flat-width s in
     refuse-none _ _ _ (le-ltb (length (flat s)) flatWidth (omega arith)) (refuse-none _ _ _ (le-ltb flatWidth (length (flat s)) (omega arith)) (omega arith))
 
--- what is said of the flat form of a tidy state that meets the rules is what is said of that state; all states that are given are so
+-- what is said of the flat form of a tidy state that meets the rules is what is said of that state. Every state that is given is
+-- so, but for the all-zero one of a run whose configuration is not accepted.
 pub given-taken : (s : State) → rules s ≡ true → tidy s ≡ s → (reply : State → Reply) → onState (flat s) reply ≡ reply s
 given-taken s h t reply = sym (on-state (flat s) reply (flat-taken s)) ∙ ap reply (answer-back s h t)
 
