@@ -1,9 +1,9 @@
 /* The C interface of the proved library: link libreplay.a, which `rt staticlib replay` writes to target/staticlib.
  *
  * A slice is a pointer and its length. What the caller owes, and nothing checks: each pointer is good for its length (for reading,
- * and `out` for writing), and `out` overlaps no other argument. Every byte and every length is answered otherwise; the caller need
- * test nothing first; a length of 0 asks nothing of its pointer. The functions keep nothing between calls, take no memory and call nothing but memcpy, so they may be called
- * from several threads at once.
+ * and `out` for writing), and `out` overlaps no other argument. A length of 0 asks nothing of its pointer. Beyond that the caller
+ * need test nothing: every byte and every length gets an answer. The functions keep nothing between calls, allocate no memory and
+ * call nothing but memcpy and memset, so they may be called from several threads at once.
  *
  * A flat state has 226 bytes. Byte by byte:
  *     0       R    replicas, 1 to 5, named 0 to R - 1
@@ -21,7 +21,8 @@
  * bit i for replica i. Requests from the next epoch on, replicas from R on and records from a log's end on are unused room: an
  * answer has zeros there, and what an argument has there does not matter. Every 226 bytes are some state, good or broken.
  *
- * Every function returns a number, 0 for accepted. They are tried in this order: 21 or 23 where `state` has not 226 bytes; the
+ * Every function returns a number, 0 for accepted; replay_write_image has it in the low byte of what it returns, below the length.
+ * The numbers are tried in this order: 21 or 23 where `state` has not 226 bytes; the
  * numbers of the answer itself; 24 where `out` is shorter than the answer. Accepted, the answer stands at the front of `out`, and
  * the bytes behind it stay. Refused, every byte of `out` stays: the state that a refusal of an action, a renaming or a
  * representative gives back is the caller's own `state`.
@@ -43,7 +44,7 @@
  *     14  the leader and the replica to remove are one
  *     15  the replica to remove is caught up
  *     16  the replica to add is not caught up
- *     17  a member of the ISR follows another leader, or has no record at the high watermark
+ *     17  some member of the replica's own ISR does not have the replica as its leader, or has no record at its high watermark
  *     18  the follower's leader is another, or none
  *     19  the follower's log is not shorter than the leader's
  *     20  another mark than the one expected
@@ -53,7 +54,7 @@
  *     24  `out` is shorter than the answer
  *     25  the run has more than 65,532 bytes
  *     26  no action of the kind is accepted
- *     27  the places are not a renaming of the replicas
+ *     27  the places are not five, or not a renaming of the replicas
  */
 #ifndef REPLAY_H
 #define REPLAY_H
@@ -75,9 +76,11 @@ extern "C" {
 /* The fresh state of a configuration: 226 bytes. Refused by 22, 24. */
 uint8_t replay_fresh(uint8_t r, uint8_t l, uint8_t m, uint8_t x, uint8_t *out, size_t out_length);
 
-/* The state after an action of a kind from 0 to 8: 226 bytes. An operand that the kind does not use is 0. Refused by 21, 23, 1 to
- * 19, 24. */
-uint8_t replay_act(const uint8_t *state, size_t state_length, uint8_t kind, uint8_t a, uint8_t b, uint8_t e, uint8_t *out, size_t out_length);
+/* The state after an action of a kind from 0 to 8: 226 bytes. An operand that the kind does not use is 0. Refused by 21, 23, 1, 2,
+ * 3, then of kind 0: 5, 4; 1: 5, 6, 4; 2 and 3: 7, 8, 9; 4: 10, 11, 12; 5: 14, 13, 5, 15; 6: 13, 6, 16; 7: 10, 17; 8: 10, 18, 19;
+ * then 24. */
+uint8_t replay_act(const uint8_t *state, size_t state_length, uint8_t kind, uint8_t a, uint8_t b, uint8_t e, uint8_t *out,
+    size_t out_length);
 
 /* Weak ISR, and strong ISR: 1, 0, 0, 0 where it holds; else 0 and the smallest failing leader, member and offset. Refused by 21,
  * 23, 1, 24. */
@@ -90,20 +93,23 @@ uint8_t replay_offer(const uint8_t *state, size_t state_length, uint8_t kind, ui
 /* The image of a state. Returns the number and 256 times the image's length, which is 0 when refused. Refused by 21, 23, 1, 24. */
 uint32_t replay_write_image(const uint8_t *state, size_t state_length, uint8_t *out, size_t out_length);
 
-/* The state of an image: 226 bytes. Refused by 21, 20, 22, 1, 23 as the bytes are read, then 24. */
+/* The state of an image: 226 bytes. Refused by 21 (under ten bytes), 20, 22, 1 (next epoch or next id), then front to back 21 (a
+ * part is missing) or 1 (an end above L), then 23, 1 (any other rule), 24. */
 uint8_t replay_read_image(const uint8_t *bytes, size_t bytes_length, uint8_t *out, size_t out_length);
 
 /* The state under a renaming, place i of which holds the new name of replica i: 226 bytes. A renaming has five places. Refused by
  * 21, 23, 1, 27, 24. */
-uint8_t replay_rename(const uint8_t *state, size_t state_length, const uint8_t *places, size_t places_length, uint8_t *out, size_t out_length);
+uint8_t replay_rename(const uint8_t *state, size_t state_length, const uint8_t *places, size_t places_length, uint8_t *out,
+    size_t out_length);
 
 /* The representative of a state, the state under the renaming with the least image: 226 bytes. Refused by 21, 23, 1, 24. */
 uint8_t replay_representative(const uint8_t *state, size_t state_length, uint8_t *out, size_t out_length);
 
 /* The verdict of a run: 250 bytes, six numbers of 4 bytes, low byte first (actions accepted; refusal, 0 for none; byte where the
- * refused record starts, or the run's length; actions accepted when weak ISR, and when strong ISR, first failed, 0 for never;
- * exposed), then the last state, all zeros where no configuration was accepted. Refused by 24 alone: that a run is refused is an
- * answer. */
+ * refused record starts, the run's length where none is refused, 0 where the run is too long; actions accepted when weak ISR, and
+ * when strong ISR, first failed, 0 for never; exposed, the greatest high watermark of any replica that presumes to lead, in any
+ * state of the run), then the last state, all zeros where no configuration was accepted. Refused by 24 alone: that a run is
+ * refused is an answer. */
 uint8_t replay_judge(const uint8_t *run, size_t run_length, uint8_t *out, size_t out_length);
 
 #ifdef __cplusplus

@@ -12,7 +12,7 @@ use std::slice;
 #[no_mangle]
 #[allow(non_snake_case)]
 pub unsafe extern "C" fn LLVMFuzzerTestOneInput(data: *const u8, length: usize) -> i32 {
-    let bytes = if length == 0 {
+    let bytes: &[u8] = if length == 0 {
         &[]
     } else {
         slice::from_raw_parts(data, length)

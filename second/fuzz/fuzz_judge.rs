@@ -11,7 +11,7 @@ use std::slice;
 #[no_mangle]
 #[allow(non_snake_case)]
 pub unsafe extern "C" fn LLVMFuzzerTestOneInput(data: *const u8, length: usize) -> i32 {
-    let run = if length == 0 {
+    let run: &[u8] = if length == 0 {
         &[]
     } else {
         slice::from_raw_parts(data, length)

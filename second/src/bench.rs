@@ -162,7 +162,7 @@ fn changing_runs(random: &mut Random, r: u8, count: usize) -> Vec<Vec<u8>> {
     let mut runs = Vec::new();
     for _ in 0..count {
         runs.push(accepted(
-            course::churn_run(random, [r, 16, 64, 15], MOST_ACTIONS).run,
+            course::isr_changes_run(random, [r, 16, 64, 15], MOST_ACTIONS).run,
         ));
     }
     runs

@@ -89,7 +89,7 @@ fn longest_run(both: &mut Both) -> Vec<u8> {
     c[0] = c[0].max(2);
     let actions = LONGEST_RUN / RECORD - 1;
     if both.random.one_in(2) {
-        course::churn_run(&mut both.random, c, actions).run
+        course::isr_changes_run(&mut both.random, c, actions).run
     } else {
         course::accepted_run(&mut both.random, c, actions).run
     }
@@ -106,7 +106,7 @@ pub fn damaged_runs(both: &mut Both, scale: usize) -> String {
     }
     for _ in 0..long {
         let c = [both.random.within(2, 5), 2, 2, 1];
-        let course = course::churn_run(&mut both.random, c, 12);
+        let course = course::isr_changes_run(&mut both.random, c, 12);
         let run = draw::lengthened_run(&mut both.random, &course.run);
         both.judge(&run);
     }

@@ -6,61 +6,61 @@ use crate::random::Random;
 
 /// What a stretch of a run is like.
 #[derive(Clone, Copy)]
-struct Mood {
+struct Stretch {
     /// How often each of the nine kinds is chosen.
     weights: [usize; 9],
     /// Requests are taken from all epochs, not mostly the newest.
     late: bool,
     /// Replicas that presume are seldom told of a new leader.
-    deaf: bool,
+    unheard: bool,
     /// Presuming replicas behind the quorum's epoch write and advance first.
     stale: bool,
 }
 
-const STEADY: Mood = Mood {
+const STEADY: Stretch = Stretch {
     weights: [1, 1, 4, 6, 8, 3, 3, 8, 14],
     late: false,
-    deaf: false,
+    unheard: false,
     stale: false,
 };
-const FAIL_OVER: Mood = Mood {
+const FAIL_OVER: Stretch = Stretch {
     weights: [6, 8, 8, 8, 4, 2, 2, 4, 6],
     late: false,
-    deaf: false,
+    unheard: false,
     stale: false,
 };
-const TWO_LEADERS: Mood = Mood {
+const TWO_LEADERS: Stretch = Stretch {
     weights: [2, 6, 10, 4, 8, 2, 2, 6, 8],
     late: false,
-    deaf: true,
+    unheard: true,
     stale: false,
 };
-const STALE_LEADER: Mood = Mood {
+const STALE_LEADER: Stretch = Stretch {
     weights: [1, 4, 6, 4, 14, 1, 1, 12, 10],
     late: true,
-    deaf: true,
+    unheard: true,
     stale: true,
 };
-const LATE_REQUESTS: Mood = Mood {
+const LATE_REQUESTS: Stretch = Stretch {
     weights: [2, 6, 6, 10, 6, 2, 2, 6, 10],
     late: true,
-    deaf: false,
+    unheard: false,
     stale: false,
 };
-const ISR_CHURN: Mood = Mood {
+const ISR_CHANGES: Stretch = Stretch {
     weights: [0, 1, 2, 3, 2, 30, 30, 1, 1],
     late: false,
-    deaf: false,
+    unheard: false,
     stale: false,
 };
 
-const MOODS: [Mood; 6] = [
+const STRETCHES: [Stretch; 6] = [
     STEADY,
     FAIL_OVER,
     TWO_LEADERS,
     STALE_LEADER,
     LATE_REQUESTS,
-    ISR_CHURN,
+    ISR_CHANGES,
 ];
 
 /// A number in a range, often at one of its ends.
@@ -117,11 +117,11 @@ impl Course {
         }
     }
 
-    /// Adds one accepted action by the mood, if one is soon found.
-    fn likely(&mut self, random: &mut Random, mood: &Mood) -> bool {
+    /// Adds one accepted action by the stretch, if one is soon found.
+    fn likely(&mut self, random: &mut Random, stretch: &Stretch) -> bool {
         for _ in 0..24 {
-            let kind = weighted(random, &mood.weights);
-            let operands = likely_operands(random, &self.state, kind, mood);
+            let kind = weighted(random, &stretch.weights);
+            let operands = likely_operands(random, &self.state, kind, stretch);
             if self.try_action([kind, operands[0], operands[1], operands[2]]) {
                 return true;
             }
@@ -142,10 +142,10 @@ impl Course {
         !left.is_empty() && self.try_action(random.pick(left))
     }
 
-    /// The mood held back where the run has used up more than its share of epochs, ids or offsets.
+    /// The stretch held back where the run has used up more than its share of epochs, ids or offsets.
     /// The last epoch goes to an election, and the controller leaves an ISR of two alone.
-    fn paced(&self, mood: &Mood, actions: usize) -> Mood {
-        let mut held = *mood;
+    fn paced(&self, stretch: &Stretch, actions: usize) -> Stretch {
+        let mut held = *stretch;
         let ahead = |used: usize, of: u8| used * actions > self.accepted * usize::from(of);
         let epochs = self.state[X] + 1;
         let next = self.state[NEXT_EPOCH];
@@ -171,7 +171,7 @@ impl Course {
     }
 
     /// One change of the true leader's ISR, if there is one.
-    fn churn(&mut self, random: &mut Random) -> bool {
+    fn change_isr(&mut self, random: &mut Random) -> bool {
         let leader = self.state[QUORUM_LEADER].saturating_sub(1);
         let count = usize::from(self.state[R]);
         let start = random.below(2 * count);
@@ -185,7 +185,7 @@ impl Course {
     }
 
     /// How many followers the true leader can take out of its ISR and back in, again and again.
-    fn churning(&self) -> usize {
+    fn isr_changes(&self) -> usize {
         let named = self.state[QUORUM_LEADER];
         let leader = replica(usize::from(named.saturating_sub(1)));
         let behind = self.state[leader + EPOCH] != self.state[QUORUM_EPOCH];
@@ -201,19 +201,19 @@ impl Course {
         (0..usize::from(self.state[R])).filter(waiting).count()
     }
 
-    /// One accepted action by the mood, held back; else a change of the ISR, else any.
+    /// One accepted action by the stretch, held back; else a change of the ISR, else any.
     fn paced_step(
         &mut self,
         random: &mut Random,
-        mood: &Mood,
+        stretch: &Stretch,
         actions: usize,
         limited: usize,
     ) -> bool {
-        let mut held = self.paced(mood, actions);
-        if actions > limited && self.churning() == 1 {
+        let mut held = self.paced(stretch, actions);
+        if actions > limited && self.isr_changes() == 1 {
             held.weights[8] = 0;
         }
-        self.likely(random, &held) || self.churn(random) || self.any(random)
+        self.likely(random, &held) || self.change_isr(random) || self.any(random)
     }
 
     /// Goes back to an earlier number of accepted actions and the state there.
@@ -240,17 +240,17 @@ fn weighted(random: &mut Random, weights: &[usize; 9]) -> u8 {
 }
 
 /// Operands that have a fair chance of being accepted.
-fn likely_operands(random: &mut Random, state: &Flat, kind: u8, mood: &Mood) -> [u8; 3] {
+fn likely_operands(random: &mut Random, state: &Flat, kind: u8, stretch: &Stretch) -> [u8; 3] {
     let any = random.below(usize::from(state[R])) as u8;
     match kind {
         0 | 1 => [any, 0, 0],
-        2 => [0, 0, likely_epoch(random, state, mood)],
+        2 => [0, 0, likely_epoch(random, state, stretch)],
         3 => [
-            listener(random, state, mood),
+            listener(random, state, stretch),
             0,
-            likely_epoch(random, state, mood),
+            likely_epoch(random, state, stretch),
         ],
-        4 | 7 => [presuming(random, state, mood), 0, 0],
+        4 | 7 => [presuming(random, state, stretch), 0, 0],
         5 | 6 => [state[QUORUM_LEADER].saturating_sub(1), any, 0],
         _ => [
             any,
@@ -260,11 +260,11 @@ fn likely_operands(random: &mut Random, state: &Flat, kind: u8, mood: &Mood) -> 
     }
 }
 
-fn likely_epoch(random: &mut Random, state: &Flat, mood: &Mood) -> u8 {
+fn likely_epoch(random: &mut Random, state: &Flat, stretch: &Stretch) -> u8 {
     let sent = state[NEXT_EPOCH];
     if sent == 0 {
         0
-    } else if mood.late || random.one_in(4) {
+    } else if stretch.late || random.one_in(4) {
         random.below(usize::from(sent)) as u8
     } else {
         sent - 1
@@ -276,9 +276,9 @@ fn presumes(state: &Flat, i: usize) -> bool {
 }
 
 /// A replica that may hear of a request.
-fn listener(random: &mut Random, state: &Flat, mood: &Mood) -> u8 {
+fn listener(random: &mut Random, state: &Flat, stretch: &Stretch) -> u8 {
     let any = random.below(usize::from(state[R]));
-    if mood.deaf && presumes(state, any) {
+    if stretch.unheard && presumes(state, any) {
         random.below(usize::from(state[R])) as u8
     } else {
         any as u8
@@ -286,7 +286,7 @@ fn listener(random: &mut Random, state: &Flat, mood: &Mood) -> u8 {
 }
 
 /// A presuming replica, if there is one.
-fn presuming(random: &mut Random, state: &Flat, mood: &Mood) -> u8 {
+fn presuming(random: &mut Random, state: &Flat, stretch: &Stretch) -> u8 {
     let count = usize::from(state[R]);
     let start = random.below(count);
     let mut found = start;
@@ -294,7 +294,7 @@ fn presuming(random: &mut Random, state: &Flat, mood: &Mood) -> u8 {
         let i = (start + step) % count;
         if presumes(state, i) {
             found = i;
-            if !mood.stale || state[replica(i) + EPOCH] != state[QUORUM_EPOCH] {
+            if !stretch.stale || state[replica(i) + EPOCH] != state[QUORUM_EPOCH] {
                 break;
             }
         }
@@ -334,8 +334,8 @@ pub fn actions_of_kind(state: &Flat, kind: u8) -> Vec<Action> {
 /// of an unknown kind.
 pub fn any_action(random: &mut Random, state: &Flat) -> Action {
     if (1..=5).contains(&state[R]) && random.one_in(2) {
-        let (kind, mood) = (random.within(0, 8), random.pick(&MOODS));
-        let operands = likely_operands(random, state, kind, &mood);
+        let (kind, stretch) = (random.within(0, 8), random.pick(&STRETCHES));
+        let operands = likely_operands(random, state, kind, &stretch);
         return [kind, operands[0], operands[1], operands[2]];
     }
     let kind = if random.one_in(12) {
@@ -364,18 +364,18 @@ pub fn any_action(random: &mut Random, state: &Flat) -> Action {
 /// A run of about so many actions; nearly all are accepted, in many runs all.
 pub fn run(random: &mut Random, actions: usize) -> Vec<u8> {
     let mut course = Course::begin(configuration(random));
-    let (rash, paced) = (random.one_in(3), !random.one_in(3));
-    let mut mood = random.pick(&MOODS);
+    let (risky, paced) = (random.one_in(3), !random.one_in(3));
+    let mut stretch = random.pick(&STRETCHES);
     while course.accepted < actions {
         if random.one_in(25) {
-            mood = random.pick(&MOODS);
+            stretch = random.pick(&STRETCHES);
         }
         let held = if paced {
-            course.paced(&mood, actions)
+            course.paced(&stretch, actions)
         } else {
-            mood
+            stretch
         };
-        if rash && random.one_in(30) {
+        if risky && random.one_in(30) {
             let action = any_action(random, &course.state);
             if !course.try_action(action) {
                 return refused_at(random, course, action);
@@ -425,17 +425,17 @@ pub fn accepted_run(random: &mut Random, configuration: [u8; 4], actions: usize)
     let limited = usize::from(r) * usize::from(l) * usize::from(x + 1) / 3;
     let mut course = Course::begin(configuration);
     let (mut rest, mut resting) = ((0, course.state), 0);
-    let mut mood = STEADY;
+    let mut stretch = STEADY;
     while course.accepted < actions {
         if random.one_in(25) {
-            mood = random.pick(&MOODS);
+            stretch = random.pick(&STRETCHES);
         }
-        if course.churning() > 0 {
+        if course.isr_changes() > 0 {
             rest = (course.accepted, course.state);
         }
-        let churn = course.accepted < resting || random.below(actions) >= limited;
-        let churned = churn && course.churn(random);
-        if !churned && !course.paced_step(random, &mood, actions, limited) {
+        let change_isr = course.accepted < resting || random.below(actions) >= limited;
+        let changed = change_isr && course.change_isr(random);
+        if !changed && !course.paced_step(random, &stretch, actions, limited) {
             course.back_to(rest);
             resting = (rest.0 + actions) / 2 + 1;
         }
@@ -445,7 +445,7 @@ pub fn accepted_run(random: &mut Random, configuration: [u8; 4], actions: usize)
 
 /// A run whose leader takes a follower out of its ISR and back again, to a given number of actions.
 /// The follower is short of the leader's end and has all below its hw, so each is accepted.
-pub fn churn_run(random: &mut Random, configuration: [u8; 4], actions: usize) -> Course {
+pub fn isr_changes_run(random: &mut Random, configuration: [u8; 4], actions: usize) -> Course {
     let mut course = Course::begin(configuration);
     let leader = random.within(0, configuration[0] - 1);
     course.try_action([1, leader, 0, 0]);

@@ -71,5 +71,5 @@ pub fn check_program(path: &str, seed: u64, count: u64) -> io::Result<bool> {
         "runcheck: {} runs ({} bytes), {} differences",
         runs, bytes, differences
     );
-    Ok(differences == 0)
+    Ok(differences == 0 && runs > 0)
 }

@@ -61,7 +61,7 @@ fn of_action(both: &mut Both, state: &Flat, action: Action, places: &Places) {
 
 /// Whether a state meets S1 to S7: the questions refuse any other.
 fn meets_rules(state: &Flat) -> bool {
-    answers::weak(state) != Err(1)
+    answers::weak(state).is_ok()
 }
 
 /// The image has the length that the state calls for, and reads back as the state.
