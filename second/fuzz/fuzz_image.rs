@@ -5,18 +5,13 @@ use harness::layout::{LONGEST_IMAGE, STATE};
 use harness::proved;
 use second::flat;
 use std::process::abort;
-use std::slice;
 
 /// # Safety
 /// `data` points to `length` bytes.
 #[no_mangle]
 #[allow(non_snake_case)]
 pub unsafe extern "C" fn LLVMFuzzerTestOneInput(data: *const u8, length: usize) -> i32 {
-    let bytes: &[u8] = if length == 0 {
-        &[]
-    } else {
-        slice::from_raw_parts(data, length)
-    };
+    let bytes = proved::given(data, length);
     let (mut left, mut right) = ([0; STATE], [0; STATE]);
     let numbers = (
         proved::read_image(bytes, &mut left),

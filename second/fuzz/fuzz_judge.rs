@@ -4,18 +4,13 @@ use harness::layout::VERDICT;
 use harness::proved;
 use second::flat;
 use std::process::abort;
-use std::slice;
 
 /// # Safety
 /// `data` points to `length` bytes.
 #[no_mangle]
 #[allow(non_snake_case)]
 pub unsafe extern "C" fn LLVMFuzzerTestOneInput(data: *const u8, length: usize) -> i32 {
-    let run: &[u8] = if length == 0 {
-        &[]
-    } else {
-        slice::from_raw_parts(data, length)
-    };
+    let run = proved::given(data, length);
     let (mut left, mut right) = ([0; VERDICT], [0; VERDICT]);
     let numbers = (proved::judge(run, &mut left), flat::judge(run, &mut right));
     if numbers.0 != numbers.1 || left != right {

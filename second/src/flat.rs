@@ -127,16 +127,8 @@ pub fn representative(state: &[u8], out: &mut [u8]) -> u8 {
 /// each with the low byte first, then the last state.
 pub fn judge(run: &[u8], out: &mut [u8]) -> u8 {
     let verdict = run::judge(run);
-    let numbers = [
-        verdict.accepted,
-        verdict.refusal as u32,
-        verdict.at,
-        verdict.weak,
-        verdict.strong,
-        verdict.exposed,
-    ];
     let mut answer = [0; VERDICT_SIZE];
-    for (i, number) in numbers.iter().enumerate() {
+    for (i, number) in verdict.numbers().iter().enumerate() {
         answer[4 * i..4 * i + 4].copy_from_slice(&number.to_le_bytes());
     }
     answer[24..].copy_from_slice(&verdict.state.to_flat());

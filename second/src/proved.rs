@@ -111,3 +111,14 @@ pub fn representative(state: &[u8], out: &mut [u8]) -> u8 {
 pub fn judge(run: &[u8], out: &mut [u8]) -> u8 {
     unsafe { replay_judge(run.as_ptr(), run.len(), out.as_mut_ptr(), out.len()) }
 }
+
+/// The bytes that a C caller gives by a pointer and a length.
+///
+/// # Safety
+/// `data` points to `length` bytes.
+pub unsafe fn given<'a>(data: *const u8, length: usize) -> &'a [u8] {
+    if length == 0 {
+        return &[];
+    }
+    std::slice::from_raw_parts(data, length)
+}

@@ -30,6 +30,20 @@ pub struct Verdict {
     pub state: State,
 }
 
+impl Verdict {
+    /// Accepted, refusal, at, weak, strong and exposed.
+    pub fn numbers(&self) -> [u32; 6] {
+        [
+            self.accepted,
+            self.refusal as u32,
+            self.at,
+            self.weak,
+            self.strong,
+            self.exposed,
+        ]
+    }
+}
+
 /// Judges a run up to its first refusal.
 pub fn judge(run: &[u8]) -> Verdict {
     let mut verdict = Verdict {

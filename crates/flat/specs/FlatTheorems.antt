@@ -11,15 +11,14 @@ use lib.Dec.{ltb}
 use lib.IntN.{ℤ, pos}
 use lib.Signed.{mag}
 use lib.ListN.{length, take, drop, length-drop, length-replicate, getD-replicate}
-use lib.Seq.{length-take-le, getD-take, getD-drop, take-add, take-all, drop-at, drop-drop}
+use lib.Seq.{getD-drop, take-add, take-all, drop-at, drop-drop}
 use borrow.Author.Tests.{lt-ltb, le-ltb}
 use Rattle.logic.specs.Table.{table, tableFrom, length-table, getD-table, ext-table, cond-true}
 use Rattle.logic.specs.Concat.{concatBelow, concat-width}
 use Rattle.parts.specs.declared.Leader.{Leader}
 use Rattle.parts.specs.declared.Leader.the-variants.{None, Broker}
 use Rattle.parts.specs.Mark.{byteAt}
-use Rattle.parts.specs.Epoch.{lastEpoch}
-use Rattle.parts.specs.ByteLaws.{epoch-back, epoch-byte-back}
+use Rattle.parts.specs.ByteLaws.{epoch-back, epoch-byte-back, last-small}
 use Rattle.replica.specs.declared.Record.{Record}
 use Rattle.replica.specs.declared.Replica.{Replica}
 use Rattle.replica.specs.Replica.{replicaOf, zeroRecord, noReplica, recordAt, tidyRecord, tidyReplica}
@@ -32,7 +31,7 @@ use Rattle.cluster.specs.RuleLaws.{rules-bounded}
 use Rattle.cluster.specs.Predicates.{rules-iff}
 use Rattle.images.specs.Image.{recordBytes, recordBytesAt, replicaHeadBy}
 use Rattle.images.specs.Read.{recordOf}
-use Rattle.images.specs.PartLaws.{Bytes}
+use Rattle.images.specs.PartLaws.{Bytes, front-bytes}
 use Rattle.images.specs.RoundTrip.{named-small, writable}
 use Rattle.flat.specs.Flat.{flatWidth, headerWidth, requestWidth, replicaWidth, headWidth, recordWidth, replicasAt, flatLeader, leaderOfFlat, flatRequest, flatRequestAt, flatReplica, flatReplicaAt, flatHeader, flat, requestOfFlat, recordOfFlat, replicaOfFlat, quorumOfFlat, requestOfFlatAt, replicaOfFlatAt, stateOfFlat}
 use Rattle.flat.specs.FlatLaws.{replica-width, requests-width}
@@ -45,10 +44,6 @@ leader-bytes (suc i) h = cond-true (ltb i 255) (i + 1) 0 (lt-ltb i 255 (omega ar
 
 bytes-drop : (k : ℕ) (bs : List ℕ) → Bytes bs → Bytes (drop k bs)
 bytes-drop k bs h = record { byte = λ i. rw (getD-drop k bs i 0) (h .byte (k + i)) }
-
--- the first n bytes by number
-front-bytes : (n : ℕ) (bs : List ℕ) → n ≤ length bs → table n (byteAt bs) ≡ take n bs
-front-bytes n bs h = sym (ext-table 0 n (byteAt bs) (take n bs) (length-take-le n bs h) (λ i l. getD-take n bs i 0 l))
 
 -- parts of w bytes one after the other
 parts-joined : (w n : ℕ) (f : ℕ → List ℕ) (bs : List ℕ) → ((i : ℕ) → i < n → f i ≡ take w (drop (w * i) bs)) → concatBelow n f ≡ take (w * n) bs
@@ -267,11 +262,6 @@ tidy-request-small s h e =
       | no k ↦ rw (le-ltb e (nextLeaderEpoch s) (omega arith)) small-none
     ]
 
-last-small : (n : ℕ) → n ≤ 16 → SmallEpoch (lastEpoch n)
-unfolding lastEpoch
-last-small zero h = omega arith
-last-small (suc n) h = omega arith
-
 pub flattens-tidy : (s : State) → rules s ≡ true → Flattens (tidy s)
 unfolding tidy
 flattens-tidy s h =
@@ -281,7 +271,7 @@ flattens-tidy s h =
       requestsLength = length-table 16 (tidyRequestAt s);
       replicasLength = length-table 5 (tidyReplicaAt s);
       logLength = λ i l. rw (getD-table 5 (tidyReplicaAt s) i noReplica l) (tidy-log-length s i);
-      quorumEpoch = rw (r .s3 .epoch) (last-small (nextLeaderEpoch s) (b .requests));
+      quorumEpoch = rw (r .s3 .epoch) (last-small (nextLeaderEpoch s) (omega (arith, b .requests)));
       quorumLeader = named-small (replicaCount (s .limits)) (s .quorum .leader) (s .quorum .isr) (b .replicas) (r .s2 .quorum);
       requestLeader = λ e l. rw (getD-table 16 (tidyRequestAt s) e zeroRequest l) (tidy-request-small s h e);
       epoch = λ i l. rw (getD-table 5 (tidyReplicaAt s) i noReplica l) (tidy-replica-small s h i l .0);

@@ -109,7 +109,8 @@ fn replicas_of(bytes: &[u8]) -> [Replica; 5]
     replicas
 }
 
-// The state of 226 bytes, whatever they are. Its unused room holds what they say.
+// The state of 226 bytes, whatever they are. Its unused room holds what they say. The caller, one of our own crates, shows that
+// they are there.
 pub fn state_of(bytes: &[u8]) -> State
     requires { ⌜ flatWidth ≤ length (now bytes) ⌝ }
     ensures { λ r. ⌜ r ≡ stateOfFlat (now (bytes .entry)) ⌝ }

@@ -87,7 +87,7 @@ fn put_replicas(out: &mut [u8], at: usize, s: State) -> usize
     pos
 }
 
-// The 226 bytes of a state.
+// The 226 bytes of a state. The caller, one of our own crates, shows that the buffer has room for them.
 pub fn put_state(out: &mut [u8], at: usize, s: State) -> usize
     requires { ⌜ at + flatWidth ≤ length (now out) ⌝ }
     ensures { λ n. ⌜ Stored (now (out .entry)) at (flat s) (now (out .exit)) n ⌝ }

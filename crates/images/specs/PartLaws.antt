@@ -42,12 +42,13 @@ unfolding concatBelow
 bytes-concat zero f h = bytes-none
 bytes-concat (suc n) f h = bytes-append (concatBelow n f) (f n) (bytes-concat n f (λ i l. h i (omega arith))) (h n (omega arith))
 
+-- the first n bytes by number
+pub front-bytes : (n : ℕ) (bs : List ℕ) → n ≤ length bs → table n (byteAt bs) ≡ take n bs
+front-bytes n bs h = sym (ext-table 0 n (byteAt bs) (take n bs) (length-take-le n bs h) (λ i l. getD-take n bs i 0 l))
+
 -- the first n bytes, and those behind them
 pub front : (n : ℕ) (bs : List ℕ) → n ≤ length bs → bs ≡ table n (byteAt bs) ++ drop n bs
-front n bs h =
-    sym (take-append-drop n bs)
-    ∙ ap (λ (l : List ℕ). l ++ drop n bs)
-    (ext-table 0 n (byteAt bs) (take n bs) (length-take-le n bs h) (λ i l. getD-take n bs i 0 l))
+front n bs h = sym (take-append-drop n bs) ∙ ap (λ (l : List ℕ). l ++ drop n bs) (sym (front-bytes n bs h))
 
 -- ---- a part of n bytes
 module _ {A : Type 0} (n : ℕ) (value : List ℕ → A) where

@@ -46,7 +46,7 @@ struct StateRead {
     state: State,
 }
 
-// A record: id, epoch.
+// A record: id, epoch. The caller shows that its two bytes are there.
 pub fn record_of(bytes: &[u8], at: usize) -> Record
     requires { ⌜ at + recordWidth ≤ length (now bytes) ⌝ }
     ensures { λ r. ⌜ r ≡ recordOf (drop at (now (bytes .entry))) ⌝ }

@@ -20,7 +20,7 @@ use parts::mark;
 use replica::Record;
 use replica::Replica;
 
-// Two bytes.
+// Two bytes. The caller shows that the buffer has room for them.
 pub fn put_pair(out: &mut [u8], at: usize, x: u8, y: u8) -> usize
     requires { ⌜ at + 2 ≤ length (now out) ⌝ }
     ensures { λ n. ⌜ Stored (now (out .entry)) at (x ∷ y ∷ []) (now (out .exit)) n ⌝ }
@@ -38,7 +38,7 @@ fn put_record(out: &mut [u8], at: usize, r: Record) -> usize
     put_pair(&mut out[..], at, r.id, parts::epoch_byte(r.epoch))
 }
 
-// The first records of a log, as many as are asked for.
+// The first records of a log, as many as are asked for. The caller shows that the array has them, and the buffer room.
 pub fn put_log(out: &mut [u8], at: usize, p: Replica, count: usize) -> usize
     requires { ⌜ count ≤ 16 ⌝ }
     requires { ⌜ at + length (concatBelow count (recordBytesAt p)) ≤ length (now out) ⌝ }
@@ -80,7 +80,8 @@ fn put_requests(out: &mut [u8], at: usize, s: State) -> usize
     pos
 }
 
-// A replica up to its log: hw, epoch, leader, ISR, end. The leader comes as the byte that stands for it.
+// A replica up to its log: hw, epoch, leader, ISR, end. The leader comes as the byte that stands for it. The caller shows that
+// the buffer has room.
 pub fn put_head(out: &mut [u8], at: usize, p: Replica, leader: u8) -> usize
     requires { ⌜ at + length (replicaHeadBy p leader) ≤ length (now out) ⌝ }
     ensures { λ n. ⌜ Stored (now (out .entry)) at (replicaHeadBy p leader) (now (out .exit)) n ⌝ }

@@ -5,7 +5,7 @@ use second::actions::act;
 use second::images::{read_image, write_image};
 use second::names::{rename, renamings, representative};
 use second::questions::{offer, strong_isr, weak_isr};
-use second::run::{judge, listing, rename_run, Verdict};
+use second::run::{judge, listing, rename_run};
 use second::state::State;
 
 /// Counts the checks.
@@ -58,18 +58,6 @@ fn make_run(configuration: [u8; 4], actions: &[[u8; 4]]) -> Vec<u8> {
     run
 }
 
-/// Accepted, refusal, at, weak, strong and exposed of a verdict.
-fn numbers(verdict: &Verdict) -> [u32; 6] {
-    [
-        verdict.accepted,
-        verdict.refusal as u32,
-        verdict.at,
-        verdict.weak,
-        verdict.strong,
-        verdict.exposed,
-    ]
-}
-
 const SMALL: [u8; 4] = [1, 4, 4, 3];
 const PAIR: [u8; 4] = [2, 4, 4, 3];
 const ELECT_0: [u8; 4] = [1, 0, 0, 0];
@@ -86,7 +74,7 @@ const REPLICATE_0_FROM_0: [u8; 4] = [8, 0, 0, 0];
 fn examples_1_to_3(tally: &mut Tally) {
     let run = from_hex(PAPER_RUN);
     let verdict = judge(&run);
-    tally.check("example 1", numbers(&verdict) == [6, 17, 42, 0, 0, 0]);
+    tally.check("example 1", verdict.numbers() == [6, 17, 42, 0, 0, 0]);
     tally.check("listing", listing(&run) == PAPER_LISTING);
 
     let exchanged = rename(&verdict.state, &[0, 2, 1, 3, 4]);
@@ -97,7 +85,7 @@ fn examples_1_to_3(tally: &mut Tally) {
     longer.extend_from_slice(&from_hex("4B4108020000"));
     longer.extend_from_slice(&run[42..]);
     let verdict = judge(&longer);
-    tally.check("example 3", numbers(&verdict) == [8, 0, 54, 0, 0, 1]);
+    tally.check("example 3", verdict.numbers() == [8, 0, 54, 0, 0, 1]);
 }
 
 fn examples_4_and_5(tally: &mut Tally) {
@@ -113,7 +101,7 @@ fn examples_4_and_5(tally: &mut Tally) {
         FOLLOWER_1_WITH_2,
     ];
     let verdict = judge(&make_run(PAIR, &actions));
-    tally.check("example 4", numbers(&verdict) == [9, 0, 60, 9, 9, 1]);
+    tally.check("example 4", verdict.numbers() == [9, 0, 60, 9, 9, 1]);
     tally.check(
         "example 4, weak",
         weak_isr(&verdict.state) == Ok(Some((0, 1, 0))),
@@ -125,23 +113,23 @@ fn examples_4_and_5(tally: &mut Tally) {
 
     let actions = [ELECT_0, LEADER_0, FOLLOWER_1_WITH_0, FOLLOWER_1_WITH_0];
     let verdict = judge(&make_run(PAIR, &actions));
-    tally.check("example 5", numbers(&verdict) == [3, 9, 24, 0, 0, 0]);
+    tally.check("example 5", verdict.numbers() == [3, 9, 24, 0, 0, 0]);
 }
 
 fn examples_6_to_9(tally: &mut Tally) {
     let verdict = judge(&make_run(SMALL, &[SHRINK_0]));
     tally.check(
         "example 6, shrink",
-        numbers(&verdict) == [1, 0, 12, 0, 0, 0],
+        verdict.numbers() == [1, 0, 12, 0, 0, 0],
     );
     tally.check("example 6, ISR", verdict.state.quorum.isr == 0);
     let verdict = judge(&make_run(SMALL, &[SHRINK_0, ELECT_0]));
-    tally.check("example 6, elect", numbers(&verdict) == [1, 5, 12, 0, 0, 0]);
+    tally.check("example 6, elect", verdict.numbers() == [1, 5, 12, 0, 0, 0]);
 
     let verdict = judge(&make_run(SMALL, &[ELECT_0, SHRINK_0]));
     tally.check(
         "example 7, accepted",
-        numbers(&verdict) == [2, 0, 18, 0, 0, 0],
+        verdict.numbers() == [2, 0, 18, 0, 0, 0],
     );
     let quorum = verdict.state.quorum;
     tally.check(
@@ -152,23 +140,23 @@ fn examples_6_to_9(tally: &mut Tally) {
     let verdict = judge(&make_run(SMALL, &[ELECT_0, LEADER_0, REPLICATE_0_FROM_0]));
     tally.check(
         "example 8, replicate",
-        numbers(&verdict) == [2, 19, 18, 0, 0, 0],
+        verdict.numbers() == [2, 19, 18, 0, 0, 0],
     );
     let verdict = judge(&make_run(SMALL, &[ELECT_0, LEADER_0, ADVANCE_0]));
     tally.check(
         "example 8, advance",
-        numbers(&verdict) == [2, 17, 18, 0, 0, 0],
+        verdict.numbers() == [2, 17, 18, 0, 0, 0],
     );
 
     let verdict = judge(&make_run([2, 4, 4, 0], &[ELECT_0, SHRINK_0]));
-    tally.check("example 9", numbers(&verdict) == [1, 4, 12, 0, 0, 0]);
+    tally.check("example 9", verdict.numbers() == [1, 4, 12, 0, 0, 0]);
 }
 
 fn example_10(tally: &mut Tally) {
     let verdict = judge(&[]);
     tally.check(
         "example 10, empty",
-        numbers(&verdict) == [0, 21, 0, 0, 0, 0],
+        verdict.numbers() == [0, 21, 0, 0, 0, 0],
     );
     tally.check("example 10, last state", verdict.state == State::zero());
     for (configuration, refusal, at) in [
@@ -179,7 +167,7 @@ fn example_10(tally: &mut Tally) {
     ] {
         let verdict = judge(&make_run(configuration, &[]));
         let name = format!("example 10, {:?}", configuration);
-        tally.check(&name, numbers(&verdict) == [0, refusal, at, 0, 0, 0]);
+        tally.check(&name, verdict.numbers() == [0, refusal, at, 0, 0, 0]);
     }
 }
 
@@ -194,7 +182,7 @@ fn other_listings(tally: &mut Tally) {
     run.resize(65_532, 0);
     tally.check(
         "the longest run",
-        numbers(&judge(&run)) == [0, 20, 6, 0, 0, 0],
+        judge(&run).numbers() == [0, 20, 6, 0, 0, 0],
     );
 }
 
@@ -206,7 +194,7 @@ fn other_answers(tally: &mut Tally) {
         let other = judge(&rename_run(&run, &places));
         tally.check(
             "verdict of a renamed run",
-            numbers(&other) == numbers(&verdict),
+            other.numbers() == verdict.numbers(),
         );
         let moved = rename(&verdict.state, &places);
         tally.check("last state of a renamed run", moved == Ok(other.state));
