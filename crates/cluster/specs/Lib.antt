@@ -12,3 +12,4 @@ pub mod Act
 pub mod Accepted
 pub mod ActLaws
 pub mod Marks
+pub mod OnePass

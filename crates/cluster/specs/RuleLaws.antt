@@ -7,9 +7,10 @@ use mathlib.Core.Logic.{_↔_}
 use native.Mathlib.Omega.{arith}
 use lib.Dec.{eqb, leb, eqb·suc-zero}
 use lib.IntN.{ℤ, pos, negsuc}
+use lib.ListN.{drop}
 use borrow.Author.Tests.{leb-true}
 use Rattle.logic.specs.Table.{cond-true, cond-false}
-use Rattle.logic.specs.Tests.{all-at, every-at, failing-zero, and-left, and-right, true-false}
+use Rattle.logic.specs.Tests.{all-at, every-at, firstFailing, failing-here, failing-later, failing-none, failing-zero, and-left, and-right, true-false}
 use Rattle.parts.specs.declared.Leader.{Leader}
 use Rattle.parts.specs.declared.Leader.the-variants.{None}
 use Rattle.parts.specs.Refusal.{accepted, brokenState}
@@ -22,7 +23,7 @@ use Rattle.cluster.specs.declared.Quorum.{Quorum}
 use Rattle.cluster.specs.declared.Request.{Request}
 use Rattle.cluster.specs.declared.State.{State}
 use Rattle.cluster.specs.State.{replicaCount, logSize, maxRecords, maxLeaderEpoch, nextLeaderEpoch, nextRecordId, requestIn, replicaIn}
-use Rattle.cluster.specs.Rules.{between, limitTests, inRange, rule1Tests, rule1, replicaInRange, replicaInRangeAt, leaderAndIsrInRange, rule2Tests, rule2, quorumMatchesRequest, replicaMatchesRequest, ruleTests, rules, brokenRule, stateRefusal, Bounded, LogsBounded}
+use Rattle.cluster.specs.Rules.{between, limitTests, inRange, rule1Tests, rule1, replicaInRange, replicaInRangeAt, leaderAndIsrInRange, rule2Tests, rule2, quorumMatchesRequest, replicaMatchesRequest, rule7, ruleTests, rules, brokenRule, stateRefusal, Bounded, LogsBounded}
 
 -- ---- S1
 pub between-low : (low high n : ℕ) → between low high n ≡ true → low ≤ n
@@ -131,17 +132,13 @@ pub broken-none : (s : State) → brokenRule s ≡ 0 ↔ rules s ≡ true
 unfolding brokenRule rules
 broken-none s = failing-zero 0 (ruleTests s)
 
-pub refusal-none : (s : State) → brokenRule s ≡ 0 → accepted ≡ stateRefusal s
-unfolding stateRefusal
-refusal-none s h = rw (broken-none s .0 h)
-
-pub refusal-some : (s : State) → (brokenRule s ≡ 0 → ⊥) → brokenState ≡ stateRefusal s
-unfolding stateRefusal
-refusal-some s h = go (rules s) refl
+-- where some is broken and S1 to S6 hold, it is S7
+pub only-seventh : (s : State) → rules s ≡ false → firstFailing 7 (drop 6 (ruleTests s)) ≡ brokenRule s → 7 ≡ brokenRule s
+only-seventh s unmet e = go (rule7 (replicaCount (s .limits)) (s .replicas)) refl
   where
-    go : (b : Bool) → rules s ≡ b → brokenState ≡ cond b accepted brokenState
-    go true e = absurd (h (broken-none s .1 e))
-    go false e = refl
+    go : (b : Bool) → rule7 (replicaCount (s .limits)) (s .replicas) ≡ b → 7 ≡ brokenRule s
+    go true h = absurd (true-false (sym (broken-none s .0 (sym (failing-none 8 ∙ failing-later 7 _ _ h ∙ e))) ∙ unmet))
+    go false h = failing-here 7 _ _ h ∙ e
 
 -- a state that is not refused meets the rules
 pub refusal-met : (s : State) → stateRefusal s ≡ accepted → rules s ≡ true

@@ -2,7 +2,7 @@
 // place shows that the array has it.
 ghost use mathlib.Core.Path.{_≡_};
 ghost use Prim.Native.Nat.{_<_};
-ghost use Rattle.cluster.specs.State.{requestAt, replicaAt, withReplica, withQuorumIsr, withNextRecordId};
+ghost use Rattle.cluster.specs.State.{requestAt, replicaAt, withReplica, withNextRecordId};
 use crate::Request;
 use crate::State;
 use replica::Replica;
@@ -31,17 +31,6 @@ impl State {
     {
         let mut t = self;
         t.replicas[i as usize] = p;
-        t
-    }
-
-    // The state with another ISR in the quorum.
-    pub(crate) fn with_quorum_isr(self, isr: u8) -> State
-        ensures { λ r. ⌜ r ≡ withQuorumIsr self isr ⌝ }
-    {
-        let mut t = self;
-        let mut q = self.quorum;
-        q.isr = isr;
-        t.quorum = q;
         t
     }
 

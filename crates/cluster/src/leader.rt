@@ -61,14 +61,19 @@ impl State {
             .with_next_record_id(id + 1)
     }
 
-    // The state with another ISR in a leader and in the quorum, and no request of it.
+    // The state with another ISR in a leader and in the quorum, and no request of it. Both are put into one copy of the state.
     fn quorum_update_leader_and_isr(self, leader: u8, new_isr: u8) -> State
         requires { ⌜ leader < 5 ⌝ }
         ensures { λ r. ⌜ r ≡ quorumUpdateLeaderAndIsr self leader «new_isr» ⌝ }
     {
-        let p = self.replica_at(leader);
-        self.with_replica(leader, p.with_isr(new_isr))
-            .with_quorum_isr(new_isr)
+        let mut t = self;
+        let mut p = self.replicas[leader as usize];
+        p.isr = new_isr;
+        t.replicas[leader as usize] = p;
+        let mut q = self.quorum;
+        q.isr = new_isr;
+        t.quorum = q;
+        t
     }
 
     // Kind 5: the refusal of a's taking b out of its ISR.

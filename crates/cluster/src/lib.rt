@@ -176,10 +176,13 @@ impl State {
         tidy::tidy_replicas(tidy::tidy_requests(self))
     }
 
-    // The number of the first state rule that is broken, 1 to 7; 0 where none is.
+    // The number of the first state rule that is broken, 1 to 7; 0 where none is. Where some is and S1 to S6 hold, it is S7.
     pub fn broken_rule(self) -> u8
         ensures { λ r. ⌜ r ≡ brokenRule self ⌝ }
     {
+        if rules::meets_rules(self) {
+            return 0;
+        }
         if !rules::rule_1(self) {
             return 1;
         }
@@ -198,17 +201,14 @@ impl State {
         if !rules::rule_6(self) {
             return 6;
         }
-        if !rules::rule_7(self) {
-            return 7;
-        }
-        0
+        7
     }
 
     // The refusal of a state that breaks a rule, 1; 0 where it meets them all.
     pub fn state_refusal(self) -> u8
         ensures { λ r. ⌜ r ≡ stateRefusal self ⌝ }
     {
-        if self.broken_rule() == 0 {
+        if rules::meets_rules(self) {
             return ACCEPTED;
         }
         BROKEN_STATE

@@ -3,13 +3,15 @@ ghost use mathlib.Core.Path.{_≡_};
 ghost use Prim.Native.Nat.{_≤_, _<_};
 ghost use mathlib.Core.Bool.{true, not, _&&_, _||_};
 ghost use lib.Dec.{eqb};
-ghost use Rattle.logic.specs.Tests.{allBelow};
+ghost use Rattle.logic.specs.Tests.{allBelow, every};
 ghost use Rattle.parts.specs.Isr.{member};
 ghost use Rattle.parts.specs.declared.Leader.the-variants.{None};
 ghost use Rattle.parts.specs.Leader.{names, sameLeader};
-ghost use Rattle.cluster.specs.State.{replicaCount, nextLeaderEpoch, nextRecordId};
-ghost use Rattle.cluster.specs.Rules.{between, inRange, rule1, leaderAndIsrInRange, replicaInRange, replicaInRangeAt, requestInRangeAt, rule2, quorumMatchesRequest, rule3, requestLeaderInIsr, rule4, replicaMatchesRequest, replicaMeetsS5, rule5, rule6, rule7, Bounded, LogsBounded};
+ghost use Rattle.cluster.specs.State.{replicaCount, logSize, nextLeaderEpoch, nextRecordId};
+ghost use Rattle.cluster.specs.Rules.{between, inRange, rule1, leaderAndIsrInRange, replicaInRange, replicaInRangeAt, requestInRangeAt, rule2, quorumMatchesRequest, rule3, requestLeaderInIsr, rule4, replicaMatchesRequest, replicaMeetsS5, rule5, rule6, rules, Bounded, LogsBounded};
+ghost use Rattle.cluster.specs.OnePass.{quorumAndRequestsInRange, passTests};
 use crate::Limits;
+use crate::Quorum;
 use crate::Request;
 use crate::State;
 use parts::Leader;
@@ -122,10 +124,10 @@ fn requests_in_range(requests: [Request; 16], next: u8, count: u8) -> bool
     true
 }
 
-// S2: every end at most L; every leader none or below R; every ISR within the replicas.
-pub(crate) fn rule_2(s: State) -> bool
+// S2 of the quorum and of every request.
+fn quorum_and_requests_in_range(s: State) -> bool
     requires { ⌜ Bounded s ⌝ }
-    ensures { λ r. ⌜ r ≡ rule2 (s .limits) (nextLeaderEpoch s) (s .quorum) (s .requests) (s .replicas) ⌝ }
+    ensures { λ r. ⌜ r ≡ quorumAndRequestsInRange s ⌝ }
 {
     let c = s.limits;
     let q = s.quorum;
@@ -134,7 +136,15 @@ pub(crate) fn rule_2(s: State) -> bool
         return false;
     }
     let requests = s.requests;
-    if !requests_in_range(requests, s.next_leader_epoch, c.replica_count) {
+    requests_in_range(requests, s.next_leader_epoch, c.replica_count)
+}
+
+// S2: every end at most L; every leader none or below R; every ISR within the replicas.
+pub(crate) fn rule_2(s: State) -> bool
+    requires { ⌜ Bounded s ⌝ }
+    ensures { λ r. ⌜ r ≡ rule2 (s .limits) (nextLeaderEpoch s) (s .quorum) (s .requests) (s .replicas) ⌝ }
+{
+    if !quorum_and_requests_in_range(s) {
         return false;
     }
     replicas_in_range(s)
@@ -151,19 +161,18 @@ fn no_leader_with_isr(leader: Leader, isr: u8, expected: u8) -> bool
 }
 
 // The leader, and at the start the ISR, that S3 asks of the quorum.
-fn quorum_matches_request(s: State) -> bool
-    requires { ⌜ Bounded s ⌝ }
-    ensures { λ r. ⌜ r ≡ quorumMatchesRequest (replicaCount (s .limits)) (s .quorum) (s .requests) (nextLeaderEpoch s) ⌝ }
+fn quorum_matches_request(count: u8, q: Quorum, requests: [Request; 16], next: u8) -> bool
+    requires { ⌜ count ≤ 5 ⌝ }
+    requires { ⌜ next ≤ 16 ⌝ }
+    ensures { λ r. ⌜ r ≡ quorumMatchesRequest count q requests next ⌝ }
 {
-    let q = s.quorum;
     let l = q.leader;
-    let n = s.next_leader_epoch as usize;
+    let n = next as usize;
     if n == 0 {
-        let c = s.limits;
-        let full = parts::full_isr(c.replica_count);
+        let full = parts::full_isr(count);
         return no_leader_with_isr(l, q.isr, full);
     }
-    let last = s.requests[n - 1];
+    let last = requests[n - 1];
     let m = last.leader;
     l.same(m)
 }
@@ -176,7 +185,9 @@ pub(crate) fn rule_3(s: State) -> bool
     let q = s.quorum;
     let last = parts::last_epoch(s.next_leader_epoch);
     if parts::same_epoch(q.epoch, last) {
-        return quorum_matches_request(s);
+        let c = s.limits;
+        let requests = s.requests;
+        return quorum_matches_request(c.replica_count, q, requests, s.next_leader_epoch);
     }
     false
 }
@@ -305,25 +316,50 @@ pub(crate) fn rule_6(s: State) -> bool
     true
 }
 
-// S7: records with one id, in one log or two, stand at one offset and carry one epoch. One pass over the at most 80 records of
-// all logs: each has the mark (offset and epoch) of those of its id that were seen before it. Nothing past an end is read.
-pub(crate) fn rule_7(s: State) -> bool
+// S2, S5, S6 and S7 of the replicas, in one pass over them: a test of its own for each would copy the state each time. S7 (records
+// with one id, in one log or two, stand at one offset and carry one epoch) goes by the marks of the records seen so far. Nothing
+// past an end is read.
+fn replicas_meet(s: State) -> bool
     requires { ⌜ Bounded s ⌝ }
-    requires { ⌜ LogsBounded s ⌝ }
-    requires { ⌜ rule6 (replicaCount (s .limits)) (nextRecordId s) (nextLeaderEpoch s) (s .replicas) ≡ true ⌝ }
-    ensures { λ r. ⌜ r ≡ rule7 (replicaCount (s .limits)) (s .replicas) ⌝ }
+    requires { ⌜ logSize (s .limits) ≤ 16 ⌝ }
+    ensures { λ r. ⌜ r ≡ every (passTests s) ⌝ }
 {
     let c = s.limits;
     let n = c.replica_count as usize;
+    let requests = s.requests;
     let mut seen = [0u16; 256];
     let mut i: usize = 0;
     while i < n {
         let p = s.replicas[i];
-        if p.log_agrees_with(&mut seen) {
-            i = i + 1;
-        } else {
+        if !replica_in_range(c, p) {
             return false;
         }
+        if !replica_meets_s5(requests, s.next_leader_epoch, p, i) {
+            return false;
+        }
+        if !p.log_meets_s6_s7(s.next_record_id, s.next_leader_epoch, &mut seen) {
+            return false;
+        }
+        i = i + 1;
     }
     true
+}
+
+// Whether the state meets S1 to S7.
+pub(crate) fn meets_rules(s: State) -> bool
+    ensures { λ r. ⌜ r ≡ rules s ⌝ }
+{
+    if !rule_1(s) {
+        return false;
+    }
+    if !quorum_and_requests_in_range(s) {
+        return false;
+    }
+    if !rule_3(s) {
+        return false;
+    }
+    if !rule_4(s) {
+        return false;
+    }
+    replicas_meet(s)
 }

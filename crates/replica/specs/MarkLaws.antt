@@ -1,17 +1,20 @@
 -- Records in use agree exactly where their marks do, and what is among the entries of a log. Assumes nothing.
 use Prim.Native.Nat.{ℕ, _+_, _*_, _≤_, _<_}
 use mathlib.Core.Path.{_≡_, refl, sym, _∙_, ap, ap₂}
-use mathlib.Core.List.{[], _∷_}
+use mathlib.Core.Bool.{true, false, _&&_}
+use mathlib.Core.List.{List, [], _∷_}
 use mathlib.Core.Logic.{_↔_, inl}
 use native.Mathlib.Omega.{arith}
 use lib.IntN.{ℤ, pos, negsuc}
-use Rattle.logic.specs.Marks.{Entry, In, in-concat, in-some}
+use Rattle.logic.specs.Tests.{and-true, and-no, true-false}
+use Rattle.logic.specs.Marks.{Entry, Passed, agreeAll, In, in-concat, in-some}
 use Rattle.parts.specs.Epoch.{epochByte}
 use Rattle.replica.specs.declared.Record.{Record}
 use Rattle.replica.specs.declared.Replica.{Replica}
 use Rattle.replica.specs.Replica.{recordAt}
+use Rattle.replica.specs.Log.{logInUse}
 use Rattle.replica.specs.LogLaws.{InUse, Agree}
-use Rattle.replica.specs.Marks.{markOf, entryOf, entryAt, logEntries}
+use Rattle.replica.specs.Marks.{markOf, entryOf, entryAt, logEntries, LogMet}
 
 -- an epoch in use is its own byte
 used-epoch : (nextId nextEpoch : ℕ) (r : Record) → nextEpoch ≤ 256 → InUse nextId nextEpoch r
@@ -57,3 +60,17 @@ entry-of-record p e i = let w = in-concat (entryAt p) (p .end) e i in record { o
 pub record-entered : (p : Replica) (x : ℕ) → x < p .end → In (entryOf (recordAt p x) x) (logEntries p)
 unfolding logEntries
 record-entered p x l = in-some (entryAt p) (p .end) x (entryOf (recordAt p x) x) l (inl refl)
+
+-- ---- the pass over a log: a record that is not in use, one that does not meet the table, and its end
+module _ (nextId nextEpoch : ℕ) (p : Replica) (old last : List ℕ) where
+  pub log-unused : false ≡ logInUse nextId nextEpoch p → LogMet nextId nextEpoch p old false last
+  log-unused h = record { both = ap (λ b. b && agreeAll old (logEntries p)) h; table = λ e. absurd (true-false (sym e)) }
+
+  pub log-unlike : Passed old (logEntries p) false last → LogMet nextId nextEpoch p old false last
+  log-unlike w = record {
+    both = sym (and-no (logInUse nextId nextEpoch p)) ∙ ap (λ b. logInUse nextId nextEpoch p && b) (w .agree);
+    table = λ e. absurd (true-false (sym e));
+  }
+
+  pub log-met : true ≡ logInUse nextId nextEpoch p → Passed old (logEntries p) true last → LogMet nextId nextEpoch p old true last
+  log-met h w = record { both = sym (and-true (sym h) (sym (w .agree))); table = λ e. w .table }

@@ -8,8 +8,8 @@ ghost use Rattle.logic.specs.Tests.{every};
 ghost use Rattle.logic.specs.Marks.{entry, Passed};
 ghost use Rattle.replica.specs.Replica.{zeroRecord, zeroReplica, recordAt, tidyReplica};
 ghost use Rattle.replica.specs.Log.{recordInUse, logInUse, sameRecord};
-ghost use Rattle.replica.specs.Marks.{markOf, logEntries};
-ghost use Rattle.replica.specs.Change.{withHw, withIsr, withRequest, append, truncateTo, truncateUnder, becomeFollowerAndTruncateTo};
+ghost use Rattle.replica.specs.Marks.{markOf, LogMet};
+ghost use Rattle.replica.specs.Change.{withHw, withRequest, append, truncateTo, truncateUnder, becomeFollowerAndTruncateTo};
 use parts::Leader;
 
 // A record: its id, and the epoch of the leader that wrote it.
@@ -149,21 +149,24 @@ impl Replica {
         true
     }
 
-    // Rule S7 of the replica's log and all records seen before it: each record of an id that was seen has the mark of that id.
-    // The table then has the marks of this log too. The caller shows that its end is in its array.
-    pub fn log_agrees_with(self, seen: &mut [u16; 256]) -> bool
+    // Rules S6 and S7 of the replica's log, given the records seen before it: each record is in use, and one of an id that was
+    // seen has the mark of that id. Where both hold, the table then has the marks of this log too. The caller shows that its end
+    // is in its array.
+    pub fn log_meets_s6_s7(self, next_id: u8, next_epoch: u8, seen: &mut [u16; 256]) -> bool
         requires { ⌜ self .end ≤ 16 ⌝ }
-        ensures { λ r. ⌜ Passed (now (seen .entry)) (logEntries self) r (now (seen .exit)) ⌝ }
+        ensures { λ r. ⌜ LogMet «next_id» «next_epoch» self (now (seen .entry)) r (now (seen .exit)) ⌝ }
     {
         let n = self.end as usize;
         let mut x: usize = 0;
         while x < n {
             let r = self.log[x];
-            if meet(seen, r.id, r.mark(x)) {
-                x = x + 1;
-            } else {
+            if !r.is_in_use(next_id, next_epoch) {
                 return false;
             }
+            if !meet(seen, r.id, r.mark(x)) {
+                return false;
+            }
+            x = x + 1;
         }
         true
     }
@@ -182,15 +185,6 @@ impl Replica {
     {
         let mut p = self;
         p.hw = hw;
-        p
-    }
-
-    // The replica with another ISR.
-    pub fn with_isr(self, isr: u8) -> Replica
-        ensures { λ r. ⌜ r ≡ withIsr self isr ⌝ }
-    {
-        let mut p = self;
-        p.isr = isr;
         p
     }
 

@@ -5,13 +5,9 @@ use lib.Dec.{eqb}
 use borrow.Author.Needs.{needs}
 use Rattle.parts.specs.declared.Leader.the-variants.{None}
 use Rattle.parts.specs.Leader.{sameLeader}
-use Rattle.cluster.specs.State.{replicaCount}
 use Rattle.cluster.specs.RuleLaws.{quorum-start, quorum-later}
 use Rattle.cluster.proofs.rules.quorum_matches_request.Statement.{statement}
 use Rattle.cluster.proofs.rules.quorum_matches_request.Tie as tie
-
-cast-n : tie.Need-cast-n
-cast-n c = search needs
 
 full-isr-requires : tie.Need-full-isr-requires
 full-isr-requires c κs = search needs
@@ -21,10 +17,10 @@ no-leader-with-isr-requires c κs = search needs
 
 returns : tie.Need-returns
 returns c =
-    let s = c .before .before .before .before .before .args .t1 in
+    let a = c .before .before .before .args in
     c .no-leader-with-isr .ensures
-    ∙ ap (λ (m : ℕ). sameLeader (s .quorum .leader) None && eqb (s .quorum .isr) m) (c .before .full-isr .ensures)
-    ∙ quorum-start (replicaCount (s .limits)) (s .quorum) (s .requests) _ (c .before .before .before .if1 .taken)
+    ∙ ap (λ (m : ℕ). sameLeader (a .q .leader) None && eqb (a .q .isr) m) (c .before .full-isr .ensures)
+    ∙ quorum-start (a .count) (a .q) (a .t3) _ (c .before .before .if1 .taken)
 
 sub-last : tie.Need-sub-last
 sub-last c = search needs
@@ -32,27 +28,26 @@ sub-last c = search needs
 mul-last : tie.Need-mul-last
 mul-last c = search needs
 
-element-copy-out-last : tie.Need-element-copy-out-last
-element-copy-out-last c = search needs
+array-copy-out-last : tie.Need-array-copy-out-last
+array-copy-out-last c = search needs
 
 same-requires : tie.Need-same-requires
 same-requires c κs = search needs
 
 returns-2 : tie.Need-returns-2
 returns-2 c =
-    let s = c .before .before .before .before .args .t1 in
-    c .same .ensures ∙ quorum-later (replicaCount (s .limits)) (s .quorum) (s .requests) _ (c .before .before .if1 .left)
+    let a = c .before .before .before .args in
+    c .same .ensures ∙ quorum-later (a .count) (a .q) (a .t3) _ (c .before .before .if1 .left)
 
 pub quorum-matches-request-spec : {M : Type 1} → statement M
 quorum-matches-request-spec =
     tie.close
     (tie.spec
-    cast-n
     full-isr-requires
     no-leader-with-isr-requires
     returns
     sub-last
     mul-last
-    element-copy-out-last
+    array-copy-out-last
     same-requires
     returns-2)

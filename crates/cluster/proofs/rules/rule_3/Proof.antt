@@ -27,7 +27,7 @@ quorum-matches-request-requires c κs = search needs
 
 returns : tie.Need-returns
 unfolding rule3
-returns c = rw (sym (same (c .before .before)) ∙ c .before .if1 .taken) (c .quorum-matches-request .ensures)
+returns c = rw (sym (same (c .before .before .before .before)) ∙ c .before .before .before .if1 .taken) (c .quorum-matches-request .ensures)
 
 returns-2 : tie.Need-returns-2
 unfolding rule3
