@@ -1,19 +1,22 @@
--- What the code of renamings works with: names, the constant of the table, and the old names as five numbers. Assumes nothing.
+-- What the code of renamings works with: names, the constant of the table, the renamed ISRs as a table, and the old names as five
+-- numbers. Assumes nothing.
 use Prim.Native.Nat.{ℕ, zero, suc, _+_, _*_, _/_, _%_, _^_, _≤_, _<_}
 use mathlib.Core.Path.{_≡_, refl, sym, ap, _∙_, fun-ext}
-use mathlib.Core.Bool.{true, false, not, cond}
+use mathlib.Core.Bool.{true, false, not}
 use mathlib.Core.List.{List, [], _∷_, map}
 use native.Mathlib.Numerals.{add-one}
 use native.Mathlib.Omega.{arith}
 use native.Mathlib.Nat.{add-zero, mod-lt}
+use native.Mathlib.Decide.{decLt}
 use lib.Dec.{eqb, ltb}
-use borrow.Author.Tests.{lt-ltb, le-ltb, ne-eqb}
-use lib.ListN.{length, getD}
+use borrow.Author.Tests.{lt-ltb, le-ltb, eq-eqb, ne-eqb}
+use lib.ListN.{length, getD, set, length-set}
 use Rattle.logic.specs.Concat.{concatBelow}
 use Rattle.logic.specs.Maps.{map-table}
-use Rattle.logic.specs.Table.{table, getD-table, table-cong}
-use Rattle.parts.specs.Isr.{member, bit, isrOf}
-use Rattle.parts.specs.IsrLaws.{below-five, isrOf-cong, member-low, member-none}
+use Rattle.logic.specs.Table.{table, tableFrom, length-table, getD-table, ext-table, table-cong}
+use Rattle.logic.specs.Lists.{each-set}
+use Rattle.parts.specs.Isr.{member, bit}
+use Rattle.parts.specs.IsrLaws.{below-five, isrOf-cong, member-low, member-past}
 use Rattle.replica.specs.declared.Replica.{Replica}
 use Rattle.cluster.specs.declared.Request.{Request}
 use Rattle.cluster.specs.declared.State.{State}
@@ -28,17 +31,13 @@ use Rattle.cluster.specs.ActLaws.{answer-zero, answer-other}
 use Rattle.cluster.specs.Equality.{state-path}
 use Rattle.renamings.specs.Names.{newName, holder, oldName, inverted, nameIn, Inward, inPlace, isRenaming, withoutPlace, orders, rows, row, tableNumbers}
 use Rattle.renamings.specs.Rename.{renameIsr, renamedRequestAt, renameQuorum, renameRequest, renameReplica, renamedReplicaAt, renameReplicas, renameState, renamed, Renames, renameRefusal, rename}
-use Rattle.renamings.specs.Renaming.{from-below}
+use Rattle.renamings.specs.Renaming.{to-below, from-below}
 use Rattle.renamings.specs.Rows.{keepsPlace, rows-count, renamingOf, row-numbers}
 
 -- ---- names
 pub new-name-place : (p : List ℕ) (i : ℕ) → i < 5 → getD p i 0 ≡ newName p i
 unfolding newName
 new-name-place p i h = rw (lt-ltb i 5 h) refl
-
-pub holder-more : (p : List ℕ) (i j : ℕ) → cond (eqb (newName p i) j) i (holder i p j) ≡ holder (i + 1) p j
-unfolding holder
-holder-more p i j = rw add-one refl
 
 pub in-place-low : (n : ℕ) (p : List ℕ) (i : ℕ) → i < n → ltb (newName p i) n ≡ inPlace n p i
 unfolding inPlace
@@ -100,18 +99,60 @@ member-bit isr i h = rw (member-low isr i h) (go (isr / 2 ^ i % 2) (mod-lt (isr 
     go (suc zero) l = refl
     go (suc (suc r)) l = absurd (omega arith)
 
--- the empty ISR stays empty
-pub rename-none : (from : ℕ → ℕ) → 0 ≡ renameIsr from 0
-unfolding renameIsr isrOf
-rename-none from = rw (member-none (from 0), member-none (from 1), member-none (from 2), member-none (from 3), member-none (from 4)) refl
+-- ---- the renamed ISRs as a table
+-- an ISR has no other members than 0 to 4, so its remainder by 32 has the same
+member-rest : (isr i : ℕ) → member (isr % 32) i ≡ member isr i
+member-rest isr i =
+    elim (decLt i 5) [
+      | yes h ↦ member-low (isr % 32) i h ∙ ap (λ (r : ℕ). eqb r 1) (digit i h) ∙ sym (member-low isr i h)
+      | no h ↦ member-past (isr % 32) i (omega arith) ∙ sym (member-past isr i (omega arith))
+    ]
+  where
+    digit : (k : ℕ) → k < 5 → isr % 32 / 2 ^ k % 2 ≡ isr / 2 ^ k % 2
+    digit =
+        below-five (λ (k : ℕ). isr % 32 / 2 ^ k % 2 ≡ isr / 2 ^ k % 2) (omega arith) (omega arith) (omega arith) (omega arith) (omega arith)
+
+-- what the table of all renamed ISRs holds for an ISR
+pub isr-named : (from : ℕ → ℕ) (names : List ℕ) (isr : ℕ) → names ≡ table 32 (renameIsr from) → getD names (isr % 32) 0 ≡ renameIsr from isr
+unfolding renameIsr
+isr-named from names isr e =
+    rw e
+    (getD-table 32 (renameIsr from) (isr % 32) 0 (mod-lt isr (omega arith))
+    ∙ isrOf-cong (λ j. member (isr % 32) (from j)) (λ j. member isr (from j)) (λ j h. member-rest isr (from j)))
 
 -- ---- the old names as five numbers
+-- before the first place each number is its own
+pub inverse-start : (p : List ℕ) → 0 ∷ 1 ∷ 2 ∷ 3 ∷ 4 ∷ [] ≡ table 5 (holder 0 p)
+unfolding table tableFrom holder
+inverse-start p = refl
+
+-- place i is the old name of the number that it holds, and of the others what was found before
+holder-own : (p : List ℕ) (i : ℕ) → i ≡ holder (i + 1) p (newName p i)
+unfolding holder
+holder-own p i = rw (add-one, eq-eqb (newName p i) (newName p i) refl) refl
+
+holder-other : (p : List ℕ) (i j : ℕ) → (j ≡ newName p i → ⊥) → holder i p j ≡ holder (i + 1) p j
+unfolding holder
+holder-other p i j q = rw (add-one, ne-eqb (newName p i) j (λ e. q (sym e))) refl
+
+pub inverse-turn : (p : List ℕ) (i : ℕ) → newName p i < 5 → set (table 5 (holder i p)) (newName p i) i ≡ table 5 (holder (i + 1) p)
+inverse-turn p i h =
+    let l : length (table 5 (holder i p)) ≡ 5 = length-table 5 (holder i p) in
+    ext-table 0 5 (holder (i + 1) p) (set (table 5 (holder i p)) (newName p i) i) (length-set (table 5 (holder i p)) (newName p i) i ∙ l)
+    (λ j b.
+    each-set (λ (x k : ℕ). x ≡ holder (i + 1) p k) (table 5 (holder i p)) (newName p i) i 0 (holder-own p i) j (omega (arith, l))
+    (λ q. getD-table 5 (holder i p) j 0 b ∙ holder-other p i j q))
+
 inverted-at : (p : List ℕ) (j : ℕ) → j < 5 → nameIn (inverted p) j ≡ oldName p j
 unfolding inverted
 inverted-at p j h = getD-table 5 (oldName p) j 0 h
 
-pub inverted-inward : (n : ℕ) (p : List ℕ) → n ≤ 5 → isRenaming n p ≡ true → Inward (inverted p)
-inverted-inward n p small f j h = rw (inverted-at p j h) (from-below (renamingOf n small p f) 5 small j h)
+-- new names and old ones are below five
+pub both-inward : (n : ℕ) (p : List ℕ) → n ≤ 5 → isRenaming n p ≡ true → Inward p × Inward (inverted p)
+both-inward n p small f = (
+  (λ j h. rw (new-name-place p j h) (to-below (renamingOf n small p f) 5 small j h)),
+  (λ j h. rw (inverted-at p j h) (from-below (renamingOf n small p f) 5 small j h)),
+)
 
 -- ---- a renaming reads its inverse below five alone
 module _ (to f g : ℕ → ℕ) (e : (j : ℕ) → j < 5 → f j ≡ g j) where
@@ -146,9 +187,8 @@ requests-by to from requests l =
 pub state-by : (p : List ℕ) (s : State) → length (s .requests) ≡ 16
     → stateOf (s .limits) (nextLeaderEpoch s) (nextRecordId s) (renameQuorum (newName p) (nameIn (inverted p)) (s .quorum))
     (table 16 (renamedRequestAt (newName p) (nameIn (inverted p)) (s .requests)))
-    (table 5 (renamedReplicaAt (newName p) (nameIn (inverted p)) (s .replicas)))
+    (renameReplicas (newName p) (nameIn (inverted p)) (s .replicas))
     ≡ renameState (newName p) (oldName p) s
-unfolding renameReplicas
 state-by p s l =
     state-path refl refl refl refl (requests-by (newName p) (nameIn (inverted p)) (s .requests) l) refl ∙ by-inverse p s
 

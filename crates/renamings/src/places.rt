@@ -1,8 +1,7 @@
 // Five places as a renaming: new names, old names, and the test of a renaming.
 ghost use mathlib.Core.Path.{_≡_};
-ghost use mathlib.Core.Bool.{_&&_, cond};
-ghost use lib.Dec.{eqb};
-ghost use Rattle.renamings.specs.Names.{newName, oldName, inverted, inPlace, isNew, isRenaming};
+ghost use mathlib.Core.Bool.{_&&_};
+ghost use Rattle.renamings.specs.Names.{newName, inverted, Inward, inPlace, isNew, isRenaming};
 
 // The new name of replica i.
 pub(crate) fn new_name(p: [u8; 5], i: u8) -> u8
@@ -14,40 +13,19 @@ pub(crate) fn new_name(p: [u8; 5], i: u8) -> u8
     i
 }
 
-// i where it holds j, else what was found before.
-fn holder(p: [u8; 5], i: u8, j: u8, before: u8) -> u8
-    ensures { λ r. ⌜ r ≡ cond (eqb (newName p i) j) i before ⌝ }
-{
-    if new_name(p, i) == j {
-        return i;
-    }
-    before
-}
-
-// The old name of the replica whose new name is j.
-fn old_name(p: [u8; 5], j: u8) -> u8
-    ensures { λ r. ⌜ r ≡ oldName p j ⌝ }
-{
-    let mut old = j;
-    let mut i: u8 = 0;
-    while i < 5 {
-        old = holder(p, i, j, old);
-        i = i + 1;
-    }
-    old
-}
-
-// The inverse: the old names of the replicas whose new names are 0 to 4.
+// The inverse: the old names of the replicas whose new names are 0 to 4. The caller shows that each new name is below five.
 pub(crate) fn inverse(p: [u8; 5]) -> [u8; 5]
+    requires { ⌜ Inward p ⌝ }
     ensures { λ r. ⌜ r ≡ inverted p ⌝ }
 {
-    [
-        old_name(p, 0),
-        old_name(p, 1),
-        old_name(p, 2),
-        old_name(p, 3),
-        old_name(p, 4),
-    ]
+    let mut back = [0, 1, 2, 3, 4];
+    let mut i: u8 = 0;
+    while i < 5 {
+        let j = p[i as usize] as usize;
+        back[j] = i;
+        i = i + 1;
+    }
+    back
 }
 
 // Whether place i holds a number below n, where i is below n, and else its own number.

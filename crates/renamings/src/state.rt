@@ -1,14 +1,15 @@
 // A state under a renaming p; `back` is its inverse, which holds the old names. The caller of each function that takes it shows
-// that each old name is below five.
+// that each old name is below five. `names` holds the renamed ISR of each ISR of five replicas, and the ISRs of a state are looked
+// up in it: an ISR's remainder by 32 has the same members.
 ghost use mathlib.Core.Path.{_≡_};
 ghost use mathlib.Core.Bool.{true};
-ghost use Prim.Native.Nat.{_≤_, _<_};
+ghost use Prim.Native.Nat.{ℕ, _≤_, _<_};
 ghost use Rattle.parts.specs.Isr.{member, bit};
 ghost use Rattle.logic.specs.Table.{table};
-ghost use Rattle.cluster.specs.State.{withRequests, withReplicas};
+ghost use Rattle.replica.specs.Replica.{replicaOf};
 ghost use Rattle.cluster.specs.Rules.{rules};
 ghost use Rattle.renamings.specs.Names.{newName, oldName, nameIn, Inward};
-ghost use Rattle.renamings.specs.Rename.{renameLeader, renameIsr, renameQuorum, renameRequest, renamedRequestAt, renameReplica, renamedReplicaAt, renameState, Renames};
+ghost use Rattle.renamings.specs.Rename.{renameLeader, renameIsr, renamedRequestAt, renameReplicas, renameState, Renames};
 use crate::places;
 use cluster::Quorum;
 use cluster::Request;
@@ -34,14 +35,11 @@ fn member_bit(isr: u8, i: u8) -> u8
     (isr >> i) % 2
 }
 
-// The ISR with each member by its new name. An empty one, as unused room has it, stays empty.
+// The ISR with each member by its new name.
 fn rename_isr(back: [u8; 5], isr: u8) -> u8
     requires { ⌜ Inward back ⌝ }
     ensures { λ r. ⌜ r ≡ renameIsr (nameIn back) isr ⌝ }
 {
-    if isr == 0 {
-        return 0;
-    }
     let a = member_bit(isr, back[0]);
     let b = member_bit(isr, back[1]);
     let c = member_bit(isr, back[2]);
@@ -50,33 +48,43 @@ fn rename_isr(back: [u8; 5], isr: u8) -> u8
     a + 2 * b + 4 * c + 8 * d + 16 * e
 }
 
-fn rename_quorum(p: [u8; 5], back: [u8; 5], q: Quorum) -> Quorum
+// The table `names`: place m holds the renamed ISR of m. A loop without a branch makes many at a time, and is quicker for all 32
+// than for each of the 22 ISRs of a state by itself.
+fn isr_names(back: [u8; 5]) -> [u8; 32]
     requires { ⌜ Inward back ⌝ }
-    ensures { λ r. ⌜ r ≡ renameQuorum (newName p) (nameIn back) q ⌝ }
+    ensures { λ r. ⌜ r ≡ table 32 (renameIsr (nameIn back)) ⌝ }
 {
-    let l = q.leader;
-    Quorum {
-        epoch: q.epoch,
-        leader: rename_leader(p, l),
-        isr: rename_isr(back, q.isr),
+    let mut names = [0; 32];
+    let mut isr: u8 = 0;
+    while isr < 32 {
+        names[isr as usize] = rename_isr(back, isr);
+        isr = isr + 1;
     }
+    names
 }
 
-fn rename_request(p: [u8; 5], back: [u8; 5], q: Request) -> Request
-    requires { ⌜ Inward back ⌝ }
-    ensures { λ r. ⌜ r ≡ renameRequest (newName p) (nameIn back) q ⌝ }
+// The requests with their leaders and ISRs by the new names.
+fn rename_requests(p: [u8; 5], names: [u8; 32], requests: [Request; 16]) -> [Request; 16]
+    ensures { λ r. ⌜ ((from : ℕ → ℕ) → names ≡ table 32 (renameIsr from) → r ≡ table 16 (renamedRequestAt (newName p) from requests)) ⌝ }
 {
-    let l = q.leader;
-    Request {
-        leader: rename_leader(p, l),
-        isr: rename_isr(back, q.isr),
+    let mut named = requests;
+    let mut e: usize = 0;
+    while e < 16 {
+        let q = requests[e];
+        let l = q.leader;
+        let r = Request {
+            leader: rename_leader(p, l),
+            isr: names[(q.isr % 32) as usize],
+        };
+        named[e] = r;
+        e = e + 1;
     }
+    named
 }
 
-// The whole block of a replica.
-fn rename_replica(p: [u8; 5], back: [u8; 5], q: Replica) -> Replica
-    requires { ⌜ Inward back ⌝ }
-    ensures { λ r. ⌜ r ≡ renameReplica (newName p) (nameIn back) q ⌝ }
+// The whole block of a replica; `isr` is its ISR as renamed.
+fn rename_replica(p: [u8; 5], isr: u8, q: Replica) -> Replica
+    ensures { λ r. ⌜ r ≡ replicaOf (q .hw) (q .epoch) (renameLeader (newName p) (q .leader)) isr (q .end) (q .log) ⌝ }
 {
     let l = q.leader;
     let log = q.log;
@@ -84,42 +92,32 @@ fn rename_replica(p: [u8; 5], back: [u8; 5], q: Replica) -> Replica
         hw: q.hw,
         epoch: q.epoch,
         leader: rename_leader(p, l),
-        isr: rename_isr(back, q.isr),
+        isr: isr,
         end: q.end,
         log: log,
     }
 }
 
-// The state with its requests renamed, and nothing else.
-fn rename_requests(p: [u8; 5], back: [u8; 5], s: State) -> State
+// The blocks renamed: place j gets that of the replica which is named j from now on. The caller shows what `names` holds, too.
+fn rename_replicas(
+    p: [u8; 5],
+    back: [u8; 5],
+    names: [u8; 32],
+    replicas: [Replica; 5],
+) -> [Replica; 5]
     requires { ⌜ Inward back ⌝ }
-    ensures { λ r. ⌜ r ≡ withRequests s (table 16 (renamedRequestAt (newName p) (nameIn back) (s .requests))) ⌝ }
+    requires { ⌜ names ≡ table 32 (renameIsr (nameIn back)) ⌝ }
+    ensures { λ r. ⌜ r ≡ renameReplicas (newName p) (nameIn back) replicas ⌝ }
 {
-    let mut t = s;
-    let mut e: usize = 0;
-    while e < 16 {
-        let q = s.requests[e];
-        let named = rename_request(p, back, q);
-        t.requests[e] = named;
-        e = e + 1;
-    }
-    t
-}
-
-// The state with the block of the replica that is named j from now on in place j, and nothing else renamed.
-fn rename_replicas(p: [u8; 5], back: [u8; 5], s: State) -> State
-    requires { ⌜ Inward back ⌝ }
-    ensures { λ r. ⌜ r ≡ withReplicas s (table 5 (renamedReplicaAt (newName p) (nameIn back) (s .replicas))) ⌝ }
-{
-    let mut t = s;
+    let mut named = replicas;
     let mut j: usize = 0;
     while j < 5 {
-        let q = s.replica_at(back[j]);
-        let block = rename_replica(p, back, q);
-        t.replicas[j] = block;
+        let q = replicas[back[j] as usize];
+        let block = rename_replica(p, names[(q.isr % 32) as usize], q);
+        named[j] = block;
         j = j + 1;
     }
-    t
+    named
 }
 
 // The state under p. The caller shows that the state meets the rules and p is a renaming of its replicas.
@@ -129,9 +127,23 @@ pub fn rename_state(s: State, p: [u8; 5]) -> State
     ensures { λ r. ⌜ r ≡ renameState (newName p) (oldName p) s ⌝ }
 {
     let back = places::inverse(p);
+    let names = isr_names(back);
     let q = s.quorum;
-    let quorum = rename_quorum(p, back, q);
-    let mut t = rename_replicas(p, back, rename_requests(p, back, s));
-    t.quorum = quorum;
-    t
+    let l = q.leader;
+    let quorum = Quorum {
+        epoch: q.epoch,
+        leader: rename_leader(p, l),
+        isr: names[(q.isr % 32) as usize],
+    };
+    let requests = s.requests;
+    let replicas = s.replicas;
+    let limits = s.limits;
+    State {
+        limits: limits,
+        next_leader_epoch: s.next_leader_epoch,
+        next_record_id: s.next_record_id,
+        quorum: quorum,
+        requests: rename_requests(p, names, requests),
+        replicas: rename_replicas(p, back, names, replicas),
+    }
 }

@@ -8,12 +8,9 @@ use Rattle.renamings.proofs.state.rename_replica.Tie as tie
 rename-leader-requires : tie.Need-rename-leader-requires
 rename-leader-requires c κs = search needs
 
-rename-isr-requires : tie.Need-rename-isr-requires
-rename-isr-requires c κs = search needs
-
 returns : tie.Need-returns
 returns c =
-    rw (c .before .before .rename-leader .ensures, c .before .rename-isr .ensures, toZ-ofZ {w = w8} {z = c .before .before .before .before .args .q .epoch} (record { sfits = c .struct-told .given .1 .0 .1 })) refl
+    rw (c .before .rename-leader .ensures, toZ-ofZ {w = w8} {z = c .before .before .before .args .q .epoch} (record { sfits = c .struct-told .given .1 .0 .1 })) refl
 
 pub rename-replica-spec : {M : Type 1} → statement M
-rename-replica-spec = tie.close (tie.spec rename-leader-requires rename-isr-requires returns)
+rename-replica-spec = tie.close (tie.spec rename-leader-requires returns)

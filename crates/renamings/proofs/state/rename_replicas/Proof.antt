@@ -1,44 +1,56 @@
 use Prim.Native.Nat.{_≤_, _-_}
-use mathlib.Core.Path.{_≡_, refl, ap, _∙_}
+use mathlib.Core.Path.{_≡_, refl}
+use mathlib.Core.List.{List}
 use native.Mathlib.Omega.{arith}
-use lib.ListN.{set}
+use lib.ListN.{length, set}
 use borrow.Author.Needs.{needs}
-use Rattle.renamings.specs.Names.{nameIn, Inward, newName}
-use Rattle.renamings.specs.Rename.{renameReplica, renamedReplicaAt}
+use Rattle.logic.specs.Table.{splice, splice-start, fill-turn, fill-end, length-mapped}
 use Rattle.replica.specs.declared.Replica.{Replica}
-use Rattle.cluster.specs.State.{replicaAt, withReplicas}
 use Rattle.replica.specs.Replica.{noReplica}
-use Rattle.cluster.proofs.Owned.{shaped-of}
-use Rattle.cluster.specs.declared.State.{State}
-use Rattle.logic.specs.Table.{splice, splice-start, fill-turn, fill-end}
+use Rattle.cluster.specs.State.{replicaIn}
+use Rattle.renamings.specs.Names.{newName, nameIn}
+use Rattle.renamings.specs.Rename.{renamedReplicaAt, renameReplicas}
+use Rattle.renamings.specs.CodeLaws.{isr-named}
 use Rattle.renamings.proofs.state.rename_replicas.Statement.{statement}
 use Rattle.renamings.proofs.state.rename_replicas.Tie as tie
 
 abbrev Inv-loop : tie.InvT-loop
-Inv-loop p s back t₀ j₀ t j =
-    (j ≤ 5) × Inward back × (t ≡ withReplicas s (splice 5 j (renamedReplicaAt (newName p) (nameIn back) (s .replicas)) (replicaAt s)))
+Inv-loop p back names replicas named₀ j₀ named j =
+    (j ≤ 5) × (named ≡ splice 5 j (renamedReplicaAt (newName p) (nameIn back) replicas) (replicaIn replicas))
 
 abbrev μ-loop : tie.MeasureT-loop
-μ-loop p s back t₀ j₀ t j = 5 - j
+μ-loop p back names replicas named₀ j₀ named j = 5 - j
 
 loop-holds : tie.Need-loop-holds Inv-loop μ-loop
 loop-holds c =
-    let s = c .args .s in let h = shaped-of s _ (c .good .1 .1 .0) .replicas in (omega arith, c .pre, ap (withReplicas s) (splice-start noReplica 5 (renamedReplicaAt (newName (c .args .p)) (nameIn (c .args .t2)) (s .replicas)) (s .replicas) h))
+    let l : length (c .args .t4) ≡ 5 = search (needs, length-mapped) in (omega arith, splice-start noReplica 5 (renamedReplicaAt (newName (c .args .p)) (nameIn (c .args .t2)) (c .args .t4)) (c .args .t4) l)
 
-array-read-replica-at : tie.Need-array-read-replica-at Inv-loop μ-loop
-array-read-replica-at c = search needs
+array-read-q : tie.Need-array-read-q Inv-loop μ-loop
+array-read-q c = search needs
 
-replica-at-requires : tie.Need-replica-at-requires Inv-loop μ-loop
-replica-at-requires c κs = c .before .loop .inv .1 (c .before .loop .j) (c .loop-test .taken)
+cast-q : tie.Need-cast-q Inv-loop μ-loop
+cast-q c = search needs
+
+mul-q : tie.Need-mul-q Inv-loop μ-loop
+mul-q c = let h = c .before .before .pre .0 (c .before .loop .j) (c .loop-test .taken) in search needs
+
+array-copy-out-q : tie.Need-array-copy-out-q Inv-loop μ-loop
+array-copy-out-q c = c .before .before .pre .0 (c .before .loop .j) (c .loop-test .taken)
+
+cast-rename-replica : tie.Need-cast-rename-replica Inv-loop μ-loop
+cast-rename-replica c = search needs
+
+array-read-rename-replica : tie.Need-array-read-rename-replica Inv-loop μ-loop
+array-read-rename-replica c = search needs
 
 rename-replica-requires : tie.Need-rename-replica-requires Inv-loop μ-loop
 rename-replica-requires c κs = search needs
 
-mul-block : tie.Need-mul-block Inv-loop μ-loop
-mul-block c = search needs
+mul-named : tie.Need-mul-named Inv-loop μ-loop
+mul-named c = search needs
 
-element-set-from-block : tie.Need-element-set-from-block Inv-loop μ-loop
-element-set-from-block c = search needs
+array-set-from-named : tie.Need-array-set-from-named Inv-loop μ-loop
+array-set-from-named c = search needs
 
 add-j : tie.Need-add-j Inv-loop μ-loop
 add-j c = search needs
@@ -48,16 +60,16 @@ loop-less c = search needs
 
 loop-again : tie.Need-loop-again Inv-loop μ-loop
 loop-again c =
-    let a = c .before .before .before .before .args in let s = a .s in let at = c .before .before .before .loop in (
+    let o = c .before .before .before .before .before in let a = o .args in let at = c .before .before .before .before .loop in let from = nameIn (a .t2) in (
       omega arith,
-      at .inv .1,
-      fill-turn (withReplicas s) (λ (u : State) (v : Replica). withReplicas u (set (u .replicas) (at .j) v)) 5 (at .j) (renamedReplicaAt (newName (a .p)) (nameIn (a .t2)) (s .replicas)) (replicaAt s) (λ l. refl) (omega arith) (at .t) (c .rename-replica .result) (at .inv .2)
-          (c .rename-replica .ensures ∙ ap (renameReplica (newName (a .p)) (nameIn (a .t2))) (c .before .replica-at .ensures)),
+      fill-turn (λ (l : List Replica). l) (λ (l : List Replica) (v : Replica). set l (at .j) v) 5 (at .j) (renamedReplicaAt (newName (a .p)) from (a .t4)) (replicaIn (a .t4)) (λ l. refl) (omega arith) (at .named) (c .rename-replica .result) (at .inv .1)
+          (rw (c .rename-replica .ensures, isr-named from (a .t3) (replicaIn (a .t4) (from (at .j)) .isr) (o .pre .1)) refl),
     )
 
 returns : tie.Need-returns Inv-loop μ-loop
+unfolding renameReplicas
 returns c =
-    let a = c .before .before .args in let s = a .s in fill-end (withReplicas s) 5 (c .before .loop .j) (renamedReplicaAt (newName (a .p)) (nameIn (a .t2)) (s .replicas)) (replicaAt s) (omega arith) (omega arith) (c .before .loop .t) (c .before .loop .inv .2)
+    let a = c .before .before .args in let at = c .before .loop in fill-end (λ (l : List Replica). l) 5 (at .j) (renamedReplicaAt (newName (a .p)) (nameIn (a .t2)) (a .t4)) (replicaIn (a .t4)) (omega arith) (omega arith) (at .named) (at .inv .1)
 
 pub rename-replicas-spec : {M : Type 1} → statement M
 rename-replicas-spec =
@@ -66,11 +78,15 @@ rename-replicas-spec =
     Inv-loop
     μ-loop
     loop-holds
-    array-read-replica-at
-    replica-at-requires
+    array-read-q
+    cast-q
+    mul-q
+    array-copy-out-q
+    cast-rename-replica
+    array-read-rename-replica
     rename-replica-requires
-    mul-block
-    element-set-from-block
+    mul-named
+    array-set-from-named
     add-j
     loop-less
     loop-again

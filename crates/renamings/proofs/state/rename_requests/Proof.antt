@@ -1,43 +1,49 @@
-use Prim.Native.Nat.{_≤_, _-_}
-use mathlib.Core.Path.{_≡_, refl, ap}
+use Prim.Native.Nat.{ℕ, _≤_, _-_}
+use mathlib.Core.Path.{_≡_, refl}
+use mathlib.Core.List.{List}
 use native.Mathlib.Omega.{arith}
-use lib.ListN.{set}
+use lib.ListN.{length, set}
 use borrow.Author.Needs.{needs}
-use Rattle.renamings.specs.Rename.{renamedRequestAt}
-use Rattle.renamings.specs.Names.{nameIn, newName}
+use Rattle.logic.specs.Table.{table, splice, splice-start, fill-turn, fill-end, length-mapped}
 use Rattle.cluster.specs.declared.Request.{Request}
-use Rattle.cluster.specs.State.{zeroRequest, requestAt, withRequests}
-use Rattle.cluster.proofs.Owned.{shaped-of}
-use Rattle.cluster.specs.declared.State.{State}
-use Rattle.logic.specs.Table.{splice, splice-start, fill-turn, fill-end}
+use Rattle.cluster.specs.State.{zeroRequest, requestIn}
+use Rattle.renamings.specs.Names.{newName}
+use Rattle.renamings.specs.Rename.{renameIsr, renamedRequestAt}
+use Rattle.renamings.specs.CodeLaws.{isr-named}
 use Rattle.renamings.proofs.state.rename_requests.Statement.{statement}
 use Rattle.renamings.proofs.state.rename_requests.Tie as tie
 
 abbrev Inv-loop : tie.InvT-loop
-Inv-loop p back s t₀ e₀ t e =
-    (e ≤ 16) × (t ≡ withRequests s (splice 16 e (renamedRequestAt (newName p) (nameIn back) (s .requests)) (requestAt s)))
+Inv-loop p names requests named₀ e₀ named e =
+    (e ≤ 16) × ((from : ℕ → ℕ) → names ≡ table 32 (renameIsr from) → named ≡ splice 16 e (renamedRequestAt (newName p) from requests) (requestIn requests))
 
 abbrev μ-loop : tie.MeasureT-loop
-μ-loop p back s t₀ e₀ t e = 16 - e
+μ-loop p names requests named₀ e₀ named e = 16 - e
 
 loop-holds : tie.Need-loop-holds Inv-loop μ-loop
 loop-holds c =
-    let s = c .args .t3 in let h = shaped-of s _ (c .good .1 .1 .0) .requests in (omega arith, ap (withRequests s) (splice-start zeroRequest 16 (renamedRequestAt (newName (c .args .p)) (nameIn (c .args .back)) (s .requests)) (s .requests) h))
+    let l : length (c .args .t3) ≡ 16 = search (needs, length-mapped) in (omega arith, λ from h. splice-start zeroRequest 16 (renamedRequestAt (newName (c .args .p)) from (c .args .t3)) (c .args .t3) l)
 
 mul-q : tie.Need-mul-q Inv-loop μ-loop
 mul-q c = search needs
 
-element-copy-out-q : tie.Need-element-copy-out-q Inv-loop μ-loop
-element-copy-out-q c = search needs
+array-copy-out-q : tie.Need-array-copy-out-q Inv-loop μ-loop
+array-copy-out-q c = search needs
 
-rename-request-requires : tie.Need-rename-request-requires Inv-loop μ-loop
-rename-request-requires c κs = search needs
+rename-leader-requires : tie.Need-rename-leader-requires Inv-loop μ-loop
+rename-leader-requires c κs = search needs
+
+cast-t13 : tie.Need-cast-t13 Inv-loop μ-loop
+cast-t13 c = search needs
+
+array-read-t21 : tie.Need-array-read-t21 Inv-loop μ-loop
+array-read-t21 c = search needs
 
 mul-named : tie.Need-mul-named Inv-loop μ-loop
 mul-named c = search needs
 
-element-set-from-named : tie.Need-element-set-from-named Inv-loop μ-loop
-element-set-from-named c = search needs
+array-set-from-named : tie.Need-array-set-from-named Inv-loop μ-loop
+array-set-from-named c = search needs
 
 add-e : tie.Need-add-e Inv-loop μ-loop
 add-e c = search needs
@@ -47,11 +53,16 @@ loop-less c = search needs
 
 loop-again : tie.Need-loop-again Inv-loop μ-loop
 loop-again c =
-    let a = c .before .before .before .before .args in let s = a .t3 in let at = c .before .before .before .loop in (omega arith, fill-turn (withRequests s) (λ (u : State) (v : Request). withRequests u (set (u .requests) (at .e) v)) 16 (at .e) (renamedRequestAt (newName (a .p)) (nameIn (a .back)) (s .requests)) (requestAt s) (λ l. refl) (omega arith) (at .t) (c .rename-request .result) (at .inv .1) (c .rename-request .ensures))
+    let a = c .before .before .before .before .before .args in let at = c .before .before .before .before .loop in (
+      omega arith,
+      λ from h.
+          fill-turn (λ (l : List Request). l) (λ (l : List Request) (v : Request). set l (at .e) v) 16 (at .e) (renamedRequestAt (newName (a .p)) from (a .t3)) (requestIn (a .t3)) (λ l. refl) (omega arith) (at .named) _ (at .inv .1 from h)
+          (rw (c .before .rename-leader .ensures, isr-named from (a .t2) (requestIn (a .t3) (at .e) .isr) h) refl),
+    )
 
 returns : tie.Need-returns Inv-loop μ-loop
-returns c =
-    let a = c .before .before .args in let s = a .t3 in fill-end (withRequests s) 16 (c .before .loop .e) (renamedRequestAt (newName (a .p)) (nameIn (a .back)) (s .requests)) (requestAt s) (omega arith) (omega arith) (c .before .loop .t) (c .before .loop .inv .1)
+returns c from h =
+    let a = c .before .before .args in let at = c .before .loop in fill-end (λ (l : List Request). l) 16 (at .e) (renamedRequestAt (newName (a .p)) from (a .t3)) (requestIn (a .t3)) (omega arith) (omega arith) (at .named) (at .inv .1 from h)
 
 pub rename-requests-spec : {M : Type 1} → statement M
 rename-requests-spec =
@@ -61,10 +72,12 @@ rename-requests-spec =
     μ-loop
     loop-holds
     mul-q
-    element-copy-out-q
-    rename-request-requires
+    array-copy-out-q
+    rename-leader-requires
+    cast-t13
+    array-read-t21
     mul-named
-    element-set-from-named
+    array-set-from-named
     add-e
     loop-less
     loop-again
