@@ -2,6 +2,7 @@ pub mod Image
 pub mod ImageLaws
 pub mod WriteLaws
 pub mod Read
+pub mod Layout
 pub mod ReadLaws
 pub mod PartLaws
 pub mod RoundTrip

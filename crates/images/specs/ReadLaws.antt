@@ -1,48 +1,31 @@
--- What the functions that read an image promise each other, and laws of reading for the turns of their loops and for their
--- ways out. Assumes nothing.
-use Prim.Native.Nat.{ℕ, zero, suc, _+_, _-_, _≤_, _<_}
-use mathlib.Core.Path.{_≡_, refl, sym, _∙_, ap, subst}
+-- Laws of reading: for the turns of the loops that find out whether the parts of an image are there, and of those that then read
+-- them, and for the ways out. Assumes nothing.
+use Prim.Native.Nat.{ℕ, zero, suc, _+_, _*_, _-_, _≤_, _<_}
+use mathlib.Core.Path.{_≡_, refl, sym, _∙_, ap}
 use mathlib.Core.Bool.{true, not, cond}
 use mathlib.Core.List.{List, [], _∷_}
 use native.Mathlib.Numerals.{add-one}
-use native.Mathlib.Nat.{add-zero}
+use native.Mathlib.Nat.{add-zero, mul-zero, mul-suc}
 use native.Mathlib.Omega.{arith}
-use native.Mathlib.Decide.{ℕ-discrete}
+use native.Mathlib.Decide.{ℕ-discrete, decLt}
 use lib.Dec.{leb, ltb}
-use lib.ListN.{length, drop, getD, set, length-drop}
+use lib.ListN.{length, drop, getD, set, replicate, length-drop}
 use lib.Seq.{getD-drop, drop-drop}
 use borrow.Author.Tests.{le-leb, lt-leb, ltb-false, not-false}
 use Rattle.logic.specs.Refuse.{refuse-zero}
 use Rattle.logic.specs.Table.{cond-true, cond-false}
 use Rattle.parts.specs.Refusal.{accepted, brokenState, tooShort, leftOver}
 use Rattle.parts.specs.Mark.{byteAt, marked}
-use Rattle.replica.specs.declared.Record.{Record}
+use Rattle.replica.specs.Replica.{zeroRecord, withLog}
 use Rattle.replica.specs.declared.Replica.{Replica}
-use Rattle.cluster.specs.declared.Request.{Request}
 use Rattle.cluster.specs.declared.State.{State}
-use Rattle.cluster.specs.State.{limitsOf, logSize, nextLeaderEpoch, withRequests}
-use Rattle.cluster.specs.Rules.{inRange, rule1, rules, Bounded}
-use Rattle.cluster.specs.RuleLaws.{Sizes, sizes-of, bounded-of}
+use Rattle.cluster.specs.State.{limitsOf, nextLeaderEpoch, zeroRequest, withRequests, withReplicas}
+use Rattle.cluster.specs.Rules.{inRange, rule1, rules, stateRefusal}
+use Rattle.cluster.specs.RuleLaws.{Sizes, sizes-of, refusal-met, refusal-broken}
 use Rattle.cluster.specs.Fresh.{answer}
-use Rattle.images.specs.Image.{markSecond, headerWidth, replicaWidth}
-use Rattle.images.specs.Read.{Parsed, missing, endAbove, parsed, refusalOf, andThen, part, fill, fillIn, readRequest, replicaOfHead, readRequests, headerState, readLog, readLogWithin, readReplica, headerRefusal, refused, finished, readBody, readBy, readImage}
-
--- ---- the arrays that the parts are stored in
-abbrev pub logOf : Replica → List Record
-logOf p = p .log
-
-abbrev pub requestsOf : State → List Request
-requestsOf s = s .requests
-
-abbrev pub replicasOf : State → List Replica
-replicasOf s = s .replicas
-
--- ---- what a function that reads a part answers: the number of what the part gives, and where that is 0 the value, with the
--- place of the bytes behind it
-pub record ReadAs {A : Type 0} (m : Parsed A) (bs : List ℕ) (number at : ℕ) (value : A) : Type 0 where
-  pub refusal : number ≡ refusalOf m
-  pub within : at ≤ length bs
-  pub given : number ≡ accepted → m ≡ parsed value (drop at bs)
+use Rattle.images.specs.Image.{markSecond, headerWidth, requestWidth, replicaWidth, recordWidth}
+use Rattle.images.specs.Read.{Parsed, missing, endAbove, parsed, refusalOf, andThen, part, fill, fillIn, recordOf, readRecord, requestOf, readRequest, replicaOfHead, readRequests, readReplicas, headerState, readLog, readLogWithin, readReplica, headerRefusal, refused, finished, readBody, readBy, readImage}
+use Rattle.images.specs.Layout.{wholeRefusal, replicasAt, bodyOf, layoutBy, layoutRefusal, partAt, storedBelow, requestsOf, replicaLength, replicaWithLog, replicasPlace}
 
 -- ---- bytes at a place
 pub byte-at : (bs : List ℕ) (at k : ℕ) → byteAt (drop at bs) k ≡ getD bs (at + k) 0
@@ -90,29 +73,98 @@ parsed-value x y bs cs h = cc
 pub parsed-rest : {A : Type 0} (x y : A) (bs cs : List ℕ) → parsed x bs ≡ parsed y cs → bs ≡ cs
 parsed-rest x y bs cs h = cc
 
--- ---- the turns of a loop that reads n parts into an array held by b: get gives the array, and put puts it there
-module _ {A B : Type 0} (put : List A → B) (get : B → List A) (read : List ℕ → Parsed A) (array : List A) (bs : List ℕ) (at : ℕ) where
+-- ---- n parts of w bytes each, one after the other
+pub stored-more : {A : Type 0} (n : ℕ) (f : ℕ → A) (array : List A) → set (storedBelow n f array) n (f n) ≡ storedBelow (n + 1) f array
+unfolding storedBelow
+stored-more n f array = rw add-one refl
+
+module _ {A : Type 0} (w : ℕ) (value : List ℕ → A) (array : List A) (bs : List ℕ) where
+  -- where their bytes are there
+  pub fill-parts : (n : ℕ) → w * n ≤ length bs → fill (part w value) n array bs ≡ parsed (storedBelow n (partAt w value bs) array) (drop (w * n) bs)
+  unfolding fill storedBelow
+  fill-parts zero h = rw mul-zero refl
+  fill-parts (suc n) h =
+      let more : w * suc n ≡ w * n + w = mul-suc w n in
+      let l = storedBelow n (partAt w value bs) array in
+      rw more
+      (then-parsed (fill (part w value) n array bs) (λ l rest. andThen (part w value rest) (λ x left. parsed (set l n x) left)) l (drop (w * n) bs)
+      (fill-parts n (omega (arith, more)))
+      ∙ then-parsed (part w value (drop (w * n) bs)) (λ x left. parsed (set l n x) left) (value (drop (w * n) bs)) (drop (w * n + w) bs)
+      (part-read w value bs (w * n) (omega (arith, more))))
+
+  -- where they are not
+  pub fill-short : (n : ℕ) → length bs < w * n → refusalOf (fill (part w value) n array bs) ≡ tooShort
+  unfolding fill refusalOf
+  fill-short zero h = absurd (omega (arith, mul-zero w))
+  fill-short (suc n) h =
+      let more : w * suc n ≡ w * n + w = mul-suc w n in
+      let next : List A → List ℕ → Parsed (List A) = λ l rest. andThen (part w value rest) (λ x left. parsed (set l n x) left) in
+      elim (decLt (length bs) (w * n)) [
+        | yes k ↦
+            let e = fill-short n k in
+            then-stops (fill (part w value) n array bs) next (λ z. omega (arith, sym e ∙ z)) ∙ e
+        | no k ↦
+            let l = storedBelow n (partAt w value bs) array in
+            let e = part-missing w value bs (w * n) (omega (arith, more)) in
+            ap refusalOf (then-parsed (fill (part w value) n array bs) next l (drop (w * n) bs) (fill-parts n (omega arith)))
+            ∙ then-stops (part w value (drop (w * n) bs)) (λ x left. parsed (set l n x) left) (λ z. omega (arith, sym (ap refusalOf e) ∙ z))
+            ∙ ap refusalOf e
+      ]
+
+-- ---- parts that are there, with nothing left over
+module _ {A : Type 0} where
+  pub whole-stops : (m : Parsed A) → (refusalOf m ≡ accepted → ⊥) → refusalOf m ≡ wholeRefusal m
+  unfolding refusalOf wholeRefusal
+  whole-stops missing h = refl
+  whole-stops endAbove h = refl
+  whole-stops (parsed x bs) h = absurd (h refl)
+
+  pub whole-over : (x : A) (bs : List ℕ) → 0 < length bs → leftOver ≡ wholeRefusal (parsed x bs)
+  unfolding wholeRefusal
+  whole-over x [] h = absurd (omega arith)
+  whole-over x (b ∷ bs) h = refl
+
+  pub whole-all : (x : A) (bs : List ℕ) → length bs ≤ 0 → accepted ≡ wholeRefusal (parsed x bs)
+  unfolding wholeRefusal
+  whole-all x [] h = refl
+  whole-all x (b ∷ bs) h = absurd (omega arith)
+
+  -- the other way round
+  pub whole-parsed : (m : Parsed A) → wholeRefusal m ≡ accepted → (x : A) × (m ≡ parsed x [])
+  unfolding wholeRefusal
+  whole-parsed missing h = absurd (omega arith)
+  whole-parsed endAbove h = absurd (omega arith)
+  whole-parsed (parsed x (b ∷ bs)) h = absurd (omega arith)
+  whole-parsed (parsed x []) h = (x, refl)
+
+  -- it is not the value that decides
+  pub whole-put : {B : Type 0} (put : A → B) (m : Parsed A) → wholeRefusal (andThen m (λ x rest. parsed (put x) rest)) ≡ wholeRefusal m
+  unfolding wholeRefusal andThen
+  whole-put put missing = refl
+  whole-put put endAbove = refl
+  whole-put put (parsed x []) = refl
+  whole-put put (parsed x (b ∷ bs)) = refl
+
+-- ---- the turns of a loop over n parts, each read where the one before it ended
+module _ {A : Type 0} (read : List ℕ → Parsed A) (array : List A) (bs : List ℕ) (at : ℕ) where
   -- the first i parts are read, and the bytes behind them start at pos
-  pub record Filling (n i pos : ℕ) (b : B) : Type 0 where
+  pub record Filling (n i pos : ℕ) (l : List A) : Type 0 where
     pub turns : i ≤ n
     pub within : pos ≤ length bs
-    pub read-so-far : fill read i array (drop at bs) ≡ parsed (get b) (drop pos bs)
-    pub held : b ≡ put (get b)
+    pub so-far : fill read i array (drop at bs) ≡ parsed l (drop pos bs)
 
-  pub filling-start : (n : ℕ) (b : B) → at ≤ length bs → get b ≡ array → b ≡ put (get b) → Filling n 0 at b
+  pub filling-start : (n : ℕ) → at ≤ length bs → Filling n 0 at array
   unfolding fill
-  filling-start n b h e k = record { turns = omega arith; within = h; read-so-far = ap (λ (l : List A). parsed l (drop at bs)) (sym e); held = k }
+  filling-start n h = record { turns = omega arith; within = h; so-far = refl }
 
-  -- one part more
-  pub filling-more : (n i pos pos′ : ℕ) (b c : B) (x : A) → i < n → Filling n i pos b → pos′ ≤ length bs
-      → read (drop pos bs) ≡ parsed x (drop pos′ bs) → get c ≡ set (get b) i x → c ≡ put (get c) → Filling n (i + 1) pos′ c
+  pub filling-more : (n i pos pos′ : ℕ) (l : List A) (x : A) → i < n → Filling n i pos l → pos′ ≤ length bs
+      → read (drop pos bs) ≡ parsed x (drop pos′ bs) → Filling n (i + 1) pos′ (set l i x)
   unfolding fill andThen
-  filling-more n i pos pos′ b c x h f w e g k =
+  filling-more n i pos pos′ l x h f w e =
       record {
         turns = omega arith;
         within = w;
-        read-so-far = rw (add-one, f .read-so-far, g) (then-parsed (read (drop pos bs)) (λ x left. parsed (set (get b) i x) left) x (drop pos′ bs) e);
-        held = k;
+        so-far = rw (add-one, f .so-far) (then-parsed (read (drop pos bs)) (λ x left. parsed (set l i x) left) x (drop pos′ bs) e);
       }
 
   -- a part is refused, and so are all of them
@@ -131,56 +183,41 @@ module _ {A B : Type 0} (put : List A → B) (get : B → List A) (read : List �
             then-stops (fill read n array (drop at bs)) (λ l rest. andThen (read rest) (λ x left. parsed (set l n x) left)) (λ z. k (sym p ∙ z)) ∙ p
       ]
 
-  pub filling-stops : (n i pos number : ℕ) (b c : B) → i < n → Filling n i pos b → number ≡ refusalOf (read (drop pos bs)) → (number ≡ accepted → ⊥)
-      → ReadAs (fillIn put read n array (drop at bs)) bs number pos c
-  unfolding fillIn
-  filling-stops n i pos number b c h f e k =
-      let p = fill-stops n i (get b) (drop pos bs) h (f .read-so-far) (λ z. k (e ∙ z)) in
-      record {
-        refusal = e ∙ sym p ∙ sym (then-stops (fill read n array (drop at bs)) (λ l rest. parsed (put l) rest) (λ z. k (e ∙ sym p ∙ z)));
-        within = f .within;
-        given = λ z. absurd (k z);
-      }
+  pub filling-refused : (n i pos number : ℕ) (l : List A) → i < n → Filling n i pos l → number ≡ refusalOf (read (drop pos bs))
+      → (number ≡ accepted → ⊥) → number ≡ wholeRefusal (fill read n array (drop at bs))
+  filling-refused n i pos number l h f e k =
+      let p = fill-stops n i l (drop pos bs) h (f .so-far) (λ z. k (e ∙ z)) in
+      e ∙ sym p ∙ whole-stops (fill read n array (drop at bs)) (λ z. k (e ∙ sym p ∙ z))
 
   -- all parts are read
-  pub filling-end : (n i pos : ℕ) (b : B) → n ≤ i → Filling n i pos b → ReadAs (fillIn put read n array (drop at bs)) bs accepted pos b
-  unfolding fillIn refusalOf
-  filling-end n i pos b h f =
-      let e : i ≡ n = omega (arith, f .turns) in
-      let all : fillIn put read n array (drop at bs) ≡ parsed b (drop pos bs) =
-      then-parsed (fill read n array (drop at bs)) (λ l rest. parsed (put l) rest) (get b) (drop pos bs) (rw e at (f .read-so-far))
-      ∙ ap (λ (c : B). parsed c (drop pos bs)) (sym (f .held)) in
-      record { refusal = ap refusalOf (sym all); within = f .within; given = λ z. all }
+  filling-end : (n i pos : ℕ) (l : List A) → n ≤ i → Filling n i pos l → fill read n array (drop at bs) ≡ parsed l (drop pos bs)
+  filling-end n i pos l h f = let e : i ≡ n = omega (arith, f .turns) in rw e at (f .so-far)
 
--- the same, where each part has w bytes
-module _ {A B : Type 0} (put : List A → B) (get : B → List A) (w : ℕ) (value : List ℕ → A) (array : List A) (bs : List ℕ) (at : ℕ) where
-  pub filling-part : (n i pos : ℕ) (b c : B) (x : A) → i < n → Filling put get (part w value) array bs at n i pos b → pos + w ≤ length bs
-      → x ≡ value (drop pos bs) → get c ≡ set (get b) i x → c ≡ put (get c) → Filling put get (part w value) array bs at n (i + 1) (pos + w) c
-  filling-part n i pos b c x h f room e =
-      filling-more put get (part w value) array bs at n i pos (pos + w) b c x h f room
-      (part-read w value bs pos room ∙ ap (λ (v : A). parsed v (drop (pos + w) bs)) (sym e))
+  pub filling-over : (n i pos : ℕ) (l : List A) → n ≤ i → Filling n i pos l → pos < length bs → leftOver ≡ wholeRefusal (fill read n array (drop at bs))
+  filling-over n i pos l h f k =
+      whole-over l (drop pos bs) (rw length-drop (omega arith)) ∙ ap wholeRefusal (sym (filling-end n i pos l h f))
 
-  pub filling-missing : (n i pos : ℕ) (b c : B) → i < n → Filling put get (part w value) array bs at n i pos b → length bs - pos < w
-      → ReadAs (fillIn put (part w value) n array (drop at bs)) bs tooShort pos c
-  unfolding refusalOf
-  filling-missing n i pos b c h f short =
-      filling-stops put get (part w value) array bs at n i pos tooShort b c h f (ap refusalOf (sym (part-missing w value bs pos short))) (λ z. omega arith)
+  pub filling-all : (n i pos : ℕ) (l : List A) → n ≤ i → Filling n i pos l → length bs ≤ pos → accepted ≡ wholeRefusal (fill read n array (drop at bs))
+  filling-all n i pos l h f k =
+      whole-all l (drop pos bs) (rw length-drop (omega arith)) ∙ ap wholeRefusal (sym (filling-end n i pos l h f))
 
--- ---- one reader after another
--- the first is refused
-pub then-refused : {A B : Type 0} (m : Parsed A) (next : A → List ℕ → Parsed B) (bs : List ℕ) (number at pos : ℕ) (value : A) (other : B)
-    → ReadAs m bs number at value → (number ≡ accepted → ⊥) → pos ≤ length bs → ReadAs (andThen m next) bs number pos other
-then-refused m next bs number at pos value other r k w =
-    record {
-      refusal = r .refusal ∙ sym (then-stops m next (λ z. k (r .refusal ∙ z)));
-      within = w;
-      given = λ z. absurd (k z);
-    }
+  -- where all parts are known to be there, so is the next one, and after the last nothing is left
+  module _ (n : ℕ) (ok : wholeRefusal (fill read n array (drop at bs)) ≡ accepted) where
+    pub filling-next : (i pos : ℕ) (l : List A) → i < n → Filling n i pos l → refusalOf (read (drop pos bs)) ≡ accepted
+    unfolding refusalOf
+    filling-next i pos l h f =
+        elim (ℕ-discrete (refusalOf (read (drop pos bs))) accepted) [
+          | yes q ↦ q
+          | no q ↦
+              let e = whole-parsed (fill read n array (drop at bs)) ok in
+              sym (fill-stops n i l (drop pos bs) h (f .so-far) q) ∙ ap refusalOf (e .1)
+        ]
 
--- the first gives a value, and the second takes it
-pub then-read : {A B : Type 0} (m : Parsed A) (next : A → List ℕ → Parsed B) (bs : List ℕ) (number at : ℕ) (x : A) (rest : List ℕ) (value : B)
-    → m ≡ parsed x rest → ReadAs (next x rest) bs number at value → ReadAs (andThen m next) bs number at value
-then-read m next bs number at x rest value h r = rw (then-parsed m next x rest h) r
+    pub filling-whole : (i pos : ℕ) (l : List A) → n ≤ i → Filling n i pos l → fill read n array (drop at bs) ≡ parsed l []
+    filling-whole i pos l h f =
+        let e = whole-parsed (fill read n array (drop at bs)) ok in
+        let all = filling-end n i pos l h f in
+        all ∙ ap (parsed l) (parsed-rest l (e .0) (drop pos bs) [] (sym all ∙ e .1))
 
 -- ---- the first ten bytes
 -- what they say where they are not refused
@@ -205,77 +242,173 @@ header-in-range bs h =
 pub header-sizes : (bs : List ℕ) → HeaderInRange bs → Sizes (limitsOf bs) (byteAt bs 6) (byteAt bs 7)
 header-sizes bs h = sizes-of (limitsOf bs) (byteAt bs 6) (byteAt bs 7) (h .sizes)
 
--- a state has arrays for all its requests and replicas, and logs for its ends
-pub record Room (s : State) : Type 0 where
-  pub bounded : Bounded s
-  pub logs : logSize (s .limits) ≤ 16
-
-pub header-room : (bs : List ℕ) → HeaderInRange bs → Room (headerState bs)
-unfolding headerState
-header-room bs h = record { bounded = bounded-of (headerState bs) (h .sizes); logs = header-sizes bs h .ranges .log }
-
--- that stays so where its requests are read
-pub requests-room : (s t : State) (bs rest : List ℕ) → readRequests s bs ≡ parsed t rest → Room s → Room t
-unfolding readRequests fillIn
-requests-room s t bs rest h r =
-    let f = then-from (fill readRequest (nextLeaderEpoch s) (s .requests) bs) (λ l left. parsed (withRequests s l) left) t rest h in
-    subst Room (parsed-value (withRequests s (f .0)) t (f .1) rest (f .3))
-    (record { bounded = record { replicas = r .bounded .replicas; requests = r .bounded .requests }; logs = r .logs })
-
 -- ---- a replica: its first five bytes, its end, its log
 module _ (l : ℕ) (bs : List ℕ) (at : ℕ) where
-  pub replica-missing : (v : Replica) → at ≤ length bs → length bs - at < replicaWidth → ReadAs (readReplica l (drop at bs)) bs tooShort at v
+  replica-head : at + replicaWidth ≤ length bs
+      → readReplica l (drop at bs) ≡ readLogWithin l (replicaOfHead (drop at bs)) (drop replicaWidth (drop at bs))
+  unfolding readReplica
+  replica-head h =
+      then-parsed (part replicaWidth replicaOfHead (drop at bs)) (readLogWithin l) (replicaOfHead (drop at bs)) (drop replicaWidth (drop at bs))
+      (part-back replicaWidth replicaOfHead (drop at bs) (rw length-drop (omega arith)))
+
+  replica-log : at + replicaWidth ≤ length bs → byteAt (drop at bs) 4 ≤ l
+      → readReplica l (drop at bs) ≡ readLog (replicaOfHead (drop at bs)) (drop replicaWidth (drop at bs))
+  unfolding readLogWithin
+  replica-log h k =
+      replica-head h
+      ∙ cond-true (leb (byteAt (drop at bs) 4) l) (readLog (replicaOfHead (drop at bs)) (drop replicaWidth (drop at bs))) endAbove
+      (le-leb (byteAt (drop at bs) 4) l k)
+
+  pub replica-missing : length bs - at < replicaWidth → tooShort ≡ refusalOf (readReplica l (drop at bs))
   unfolding readReplica refusalOf
-  replica-missing v h k =
+  replica-missing k =
       let e : part replicaWidth replicaOfHead (drop at bs) ≡ missing = part-missing replicaWidth replicaOfHead bs at k in
-      record {
-        refusal = sym (then-stops (part replicaWidth replicaOfHead (drop at bs)) (readLogWithin l) (λ z. omega (arith, sym (ap refusalOf e) ∙ z)) ∙ ap refusalOf e);
-        within = h;
-        given = λ z. absurd (omega arith);
-      }
+      sym (then-stops (part replicaWidth replicaOfHead (drop at bs)) (readLogWithin l) (λ z. omega (arith, sym (ap refusalOf e) ∙ z)) ∙ ap refusalOf e)
 
-  pub replica-above : (p v : Replica) → at + replicaWidth ≤ length bs → p ≡ replicaOfHead (drop at bs) → l < p .end → ReadAs (readReplica l (drop at bs)) bs brokenState at v
-  unfolding readReplica readLogWithin refusalOf
-  replica-above p v h e k =
-      let q : readReplica l (drop at bs) ≡ endAbove =
-      then-parsed (part replicaWidth replicaOfHead (drop at bs)) (readLogWithin l) p (drop (at + replicaWidth) bs)
-      (part-read replicaWidth replicaOfHead bs at h ∙ ap (λ (v : Replica). parsed v (drop (at + replicaWidth) bs)) (sym e))
-      ∙ cond-false (leb (p .end) l) (readLog p (drop (at + replicaWidth) bs)) endAbove (lt-leb (p .end) l k) in
-      record { refusal = ap refusalOf (sym q); within = omega arith; given = λ z. absurd (omega arith) }
+  pub replica-above : at + replicaWidth ≤ length bs → l < byteAt (drop at bs) 4 → brokenState ≡ refusalOf (readReplica l (drop at bs))
+  unfolding readLogWithin refusalOf
+  replica-above h k =
+      ap refusalOf (sym (replica-head h
+      ∙ cond-false (leb (byteAt (drop at bs) 4) l) (readLog (replicaOfHead (drop at bs)) (drop replicaWidth (drop at bs))) endAbove
+      (lt-leb (byteAt (drop at bs) 4) l k)))
 
-  pub replica-read : (p v : Replica) (number pos : ℕ) → at + replicaWidth ≤ length bs → p ≡ replicaOfHead (drop at bs) → p .end ≤ l
-      → ReadAs (readLog p (drop (at + replicaWidth) bs)) bs number pos v → ReadAs (readReplica l (drop at bs)) bs number pos v
-  unfolding readReplica readLogWithin
-  replica-read p v number pos h e k r =
-      then-read (part replicaWidth replicaOfHead (drop at bs)) (readLogWithin l) bs number pos p (drop (at + replicaWidth) bs) v
-      (part-read replicaWidth replicaOfHead bs at h ∙ ap (λ (v : Replica). parsed v (drop (at + replicaWidth) bs)) (sym e))
-      (rw (cond-true (leb (p .end) l) (readLog p (drop (at + replicaWidth) bs)) endAbove (le-leb (p .end) l k)) r)
+  pub replica-short : at + replicaWidth ≤ length bs → byteAt (drop at bs) 4 ≤ l → length bs - at < replicaLength (drop at bs)
+      → tooShort ≡ refusalOf (readReplica l (drop at bs))
+  unfolding readLog fillIn
+  replica-short h k short =
+      let p = replicaOfHead (drop at bs) in
+      let rest = drop replicaWidth (drop at bs) in
+      let e = fill-short recordWidth recordOf (p .log) rest (p .end) (rw (length-drop, length-drop) (omega arith)) in
+      sym (ap refusalOf (replica-log h k)
+      ∙ then-stops (fill readRecord (p .end) (p .log) rest) (λ l left. parsed (withLog p l) left) (λ z. omega (arith, sym e ∙ z)) ∙ e)
 
--- ---- the ways out: what was read up to there decides
-finished-by : (m : Parsed State) → (refusalOf m ≡ accepted → ⊥) → refused (refusalOf m) ≡ finished m
-unfolding finished refusalOf
-finished-by missing h = refl
-finished-by endAbove h = refl
-finished-by (parsed s bs) h = absurd (h refl)
+  pub replica-whole : at + replicaLength (drop at bs) ≤ length bs → byteAt (drop at bs) 4 ≤ l
+      → readReplica l (drop at bs) ≡ parsed (replicaWithLog (drop at bs)) (drop (at + replicaLength (drop at bs)) bs)
+  unfolding readLog fillIn
+  replica-whole h k =
+      let p = replicaOfHead (drop at bs) in
+      let rest = drop replicaWidth (drop at bs) in
+      replica-log (omega arith) k
+      ∙ then-parsed (fill readRecord (p .end) (p .log) rest) (λ l left. parsed (withLog p l) left)
+      (storedBelow (p .end) (partAt recordWidth recordOf rest) (p .log)) (drop (recordWidth * p .end) rest)
+      (fill-parts recordWidth recordOf (p .log) rest (p .end) (rw (length-drop, length-drop) (omega arith)))
+      ∙ ap (parsed (replicaWithLog (drop at bs)))
+      (drop-drop (recordWidth * p .end) replicaWidth (drop at bs) ∙ drop-drop (replicaLength (drop at bs)) at bs)
 
-pub finished-refused : (m : Parsed State) (bs : List ℕ) (number at : ℕ) (s : State) → ReadAs m bs number at s → (number ≡ accepted → ⊥) → refused number ≡ finished m
-finished-refused m bs number at s r k = ap refused (r .refusal) ∙ finished-by m (λ z. k (r .refusal ∙ z))
+  -- a replica that is not refused
+  pub record ReplicaFits : Type 0 where
+    pub room : at + replicaLength (drop at bs) ≤ length bs
+    pub end : byteAt (drop at bs) 4 ≤ l
 
-pub finished-over : (s : State) (bs : List ℕ) → 0 < length bs → refused leftOver ≡ finished (parsed s bs)
-unfolding finished
-finished-over s [] h = absurd (omega arith)
-finished-over s (b ∷ bs) h = refl
+  pub replica-fits : at ≤ length bs → refusalOf (readReplica l (drop at bs)) ≡ accepted → ReplicaFits
+  replica-fits w ok =
+      elim (decLt (length bs - at) replicaWidth) [
+        | yes k ↦ absurd (omega (arith, replica-missing k ∙ ok))
+        | no k ↦
+            elim (decLt l (byteAt (drop at bs) 4)) [
+              | yes a ↦ absurd (omega (arith, replica-above (omega arith) a ∙ ok))
+              | no a ↦
+                  elim (decLt (length bs - at) (replicaLength (drop at bs))) [
+                    | yes b ↦ absurd (omega (arith, replica-short (omega arith) (omega arith) b ∙ ok))
+                    | no b ↦ record { room = omega arith; end = omega arith }
+                  ]
+            ]
+      ]
 
-pub finished-all : (s : State) (bs : List ℕ) → length bs ≤ 0 → cond (rules s) (answer accepted s) (refused brokenState) ≡ finished (parsed s bs)
-unfolding finished
-finished-all s [] h = refl
-finished-all s (b ∷ bs) h = absurd (omega arith)
+-- ---- what follows the first ten bytes
+module _ (bs : List ℕ) where
+  -- the requests are not all there
+  pub body-short : headerWidth ≤ length bs → length bs < replicasPlace bs → tooShort ≡ wholeRefusal (bodyOf bs)
+  unfolding readRequests fillIn headerState
+  body-short h k =
+      let f = fill readRequest (byteAt bs 6) (replicate 16 zeroRequest) (drop headerWidth bs) in
+      let e : refusalOf f ≡ tooShort = fill-short requestWidth requestOf (replicate 16 zeroRequest) (drop headerWidth bs) (byteAt bs 6) (rw length-drop (omega arith)) in
+      let g : refusalOf (readRequests (headerState bs) (drop headerWidth bs)) ≡ tooShort =
+      then-stops f (λ l rest. parsed (withRequests (headerState bs) l) rest) (λ z. omega (arith, sym e ∙ z)) ∙ e in
+      let m : refusalOf (bodyOf bs) ≡ tooShort = then-stops (readRequests (headerState bs) (drop headerWidth bs)) readReplicas (λ z. omega (arith, sym g ∙ z)) ∙ g in
+      sym m ∙ whole-stops (bodyOf bs) (λ z. omega (arith, sym m ∙ z))
 
-pub read-refused : (bs : List ℕ) (n : ℕ) → headerRefusal bs ≡ n → (n ≡ accepted → ⊥) → refused n ≡ readImage bs
-unfolding readImage readBy
-read-refused bs zero e h = absurd (h refl)
-read-refused bs (suc n) e h = rw e
+  -- they are: the replicas follow
+  body-requests : replicasPlace bs ≤ length bs
+      → bodyOf bs ≡ andThen (replicasAt bs (replicasPlace bs)) (λ l rest. parsed (withReplicas (withRequests (headerState bs) (requestsOf (byteAt bs 6) (drop headerWidth bs))) l) rest)
+  unfolding readRequests readReplicas fillIn headerState
+  body-requests h =
+      let requests = requestsOf (byteAt bs 6) (drop headerWidth bs) in
+      then-parsed (readRequests (headerState bs) (drop headerWidth bs)) readReplicas (withRequests (headerState bs) requests) (drop (replicasPlace bs) bs)
+      (then-parsed (fill readRequest (byteAt bs 6) (replicate 16 zeroRequest) (drop headerWidth bs)) (λ l rest. parsed (withRequests (headerState bs) l) rest)
+      requests (drop (requestWidth * byteAt bs 6) (drop headerWidth bs))
+      (fill-parts requestWidth requestOf (replicate 16 zeroRequest) (drop headerWidth bs) (byteAt bs 6) (rw length-drop (omega arith)))
+      ∙ ap (parsed (withRequests (headerState bs) requests)) (drop-drop (requestWidth * byteAt bs 6) headerWidth bs))
 
-pub read-accepted : (bs : List ℕ) → headerRefusal bs ≡ accepted → readBody bs ≡ readImage bs
-unfolding readImage readBy
-read-accepted bs e = rw e
+  pub body-replicas : replicasPlace bs ≤ length bs → wholeRefusal (replicasAt bs (replicasPlace bs)) ≡ wholeRefusal (bodyOf bs)
+  body-replicas h =
+      sym (ap wholeRefusal (body-requests h)
+      ∙ whole-put (withReplicas (withRequests (headerState bs) (requestsOf (byteAt bs 6) (drop headerWidth bs)))) (replicasAt bs (replicasPlace bs)))
+
+  pub body-state : (l : List Replica) → replicasPlace bs ≤ length bs → replicasAt bs (replicasPlace bs) ≡ parsed l []
+      → bodyOf bs ≡ parsed (withReplicas (withRequests (headerState bs) (requestsOf (byteAt bs 6) (drop headerWidth bs))) l) []
+  body-state l h e =
+      body-requests h
+      ∙ then-parsed (replicasAt bs (replicasPlace bs)) (λ l rest. parsed (withReplicas (withRequests (headerState bs) (requestsOf (byteAt bs 6) (drop headerWidth bs))) l) rest) l [] e
+
+  -- where nothing is refused, the requests are there
+  pub body-room : headerWidth ≤ length bs → wholeRefusal (bodyOf bs) ≡ accepted → replicasPlace bs ≤ length bs
+  body-room h ok =
+      elim (decLt (length bs) (replicasPlace bs)) [
+        | yes k ↦ absurd (omega (arith, body-short h k ∙ ok))
+        | no k ↦ omega arith
+      ]
+
+  -- ---- the whole image
+  pub layout-header : (n : ℕ) → headerRefusal bs ≡ n → (n ≡ accepted → ⊥) → n ≡ layoutRefusal bs
+  unfolding layoutRefusal layoutBy
+  layout-header zero e h = absurd (h refl)
+  layout-header (suc n) e h = rw e
+
+  pub layout-body : headerRefusal bs ≡ accepted → wholeRefusal (bodyOf bs) ≡ layoutRefusal bs
+  unfolding layoutRefusal layoutBy
+  layout-body e = rw e
+
+  -- an image whose parts are all there
+  pub record LaidOut : Type 0 where
+    pub header : headerRefusal bs ≡ accepted
+    pub body : wholeRefusal (bodyOf bs) ≡ accepted
+
+  pub laid-out : layoutRefusal bs ≡ accepted → LaidOut
+  laid-out h =
+      elim (ℕ-discrete (headerRefusal bs) accepted) [
+        | yes q ↦ record { header = q; body = layout-body q ∙ h }
+        | no q ↦ absurd (q (layout-header (headerRefusal bs) refl q ∙ h))
+      ]
+
+  -- any other is refused
+  finished-by : (m : Parsed State) → (wholeRefusal m ≡ accepted → ⊥) → refused (wholeRefusal m) ≡ finished m
+  unfolding finished wholeRefusal refusalOf
+  finished-by missing h = refl
+  finished-by endAbove h = refl
+  finished-by (parsed s (b ∷ bs)) h = refl
+  finished-by (parsed s []) h = absurd (h refl)
+
+  pub read-refused : (n : ℕ) → n ≡ layoutRefusal bs → (n ≡ accepted → ⊥) → refused n ≡ readImage bs
+  unfolding readImage readBy readBody
+  read-refused n e h = go (headerRefusal bs) refl
+    where
+      go : (k : ℕ) → headerRefusal bs ≡ k → refused n ≡ readBy (headerRefusal bs) bs
+      go zero q =
+          let w : n ≡ wholeRefusal (bodyOf bs) = e ∙ sym (layout-body q) in
+          rw q (ap refused w ∙ finished-by (bodyOf bs) (λ z. h (w ∙ z)))
+      go (suc k) q = rw q (ap refused (e ∙ sym (layout-header (suc k) q (λ z. omega arith))))
+
+  -- where they are all there, the rules decide
+  module _ (s : State) (laid : layoutRefusal bs ≡ accepted) (is : bodyOf bs ≡ parsed s []) where
+    read-state : cond (rules s) (answer accepted s) (refused brokenState) ≡ readImage bs
+    unfolding readImage readBy readBody finished
+    read-state = rw (laid-out laid .header, is)
+
+    pub read-met : stateRefusal s ≡ accepted → answer accepted s ≡ readImage bs
+    read-met h = sym (cond-true (rules s) (answer accepted s) (refused brokenState) (refusal-met s h)) ∙ read-state
+
+    pub read-unmet : (stateRefusal s ≡ accepted → ⊥) → refused (stateRefusal s) ≡ readImage bs
+    read-unmet h =
+        let broken = refusal-broken s h in
+        ap refused (broken .1) ∙ sym (cond-false (rules s) (answer accepted s) (refused brokenState) (broken .0)) ∙ read-state

@@ -12,10 +12,16 @@ use borrow.Author.Tests.{lt-ltb, le-ltb, ltb-false}
 use Rattle.logic.specs.Stores.{Stored}
 use Rattle.logic.specs.Refuse.{refuse-yes, refuse-no, refuse-zero}
 use Rattle.parts.specs.Refusal.{accepted, brokenState, bufferShort}
+use Rattle.cluster.specs.declared.Request.{Request}
 use Rattle.cluster.specs.declared.State.{State}
+use Rattle.cluster.specs.State.{requestIn}
 use Rattle.cluster.specs.Rules.{rules}
 use Rattle.images.specs.declared.Written.{Written}
-use Rattle.images.specs.Image.{image, writeRefusal, writtenBy, writeImage, bufferBy, bufferAfter}
+use Rattle.images.specs.Image.{requestBytes, image, writeRefusal, writtenBy, writeImage, bufferBy, bufferAfter}
+
+-- the bytes of request e of these
+abbrev pub requestBytesIn : List Request → ℕ → List ℕ
+requestBytesIn requests e = requestBytes (requestIn requests e)
 
 -- an answer: a number and a length
 abbrev pub written : ℕ → ℕ → Written

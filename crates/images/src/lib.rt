@@ -61,9 +61,17 @@ pub fn write_image(s: State, out: &mut [u8]) -> Written
 pub fn read_image(bytes: &[u8]) -> Outcome
     ensures { λ r. ⌜ r ≡ readImage (now (bytes .entry)) ⌝ }
 {
-    let refusal = read::header_refusal(bytes);
+    let refusal = read::layout_refusal(bytes);
     if refusal != ACCEPTED {
         return read::refused(refusal);
     }
-    read::read_body(bytes)
+    let s = read::state_of(bytes);
+    let broken = s.state_refusal();
+    if broken != ACCEPTED {
+        return read::refused(broken);
+    }
+    Outcome {
+        refusal: ACCEPTED,
+        state: s,
+    }
 }

@@ -1,16 +1,15 @@
-// The reader: a part whose length can vary is read at a place of the bytes, and the place behind it is answered with it; a part
-// of fixed length is read by its bytes. The caller of each function shows that the place, and all bytes of a part of fixed
-// length, are there.
+// The reader, in two steps: first whether all parts are there and nothing is left over, which makes no state; then the state of parts
+// that are. So a refusal copies no state, and a part that is read is known to be there. The caller of each function shows that the
+// bytes of its part are there.
 ghost use mathlib.Core.Path.{_≡_};
-ghost use Prim.Native.Nat.{_+_, _≤_};
+ghost use mathlib.Core.List.{[]};
+ghost use Prim.Native.Nat.{_+_, _*_, _≤_};
 ghost use lib.ListN.{length, drop};
 ghost use Rattle.parts.specs.Refusal.{accepted};
 ghost use Rattle.parts.specs.Mark.{byteAt};
-ghost use Rattle.cluster.specs.State.{logSize};
-ghost use Rattle.cluster.specs.Rules.{Bounded};
 ghost use Rattle.images.specs.Image.{headerWidth, requestWidth, replicaWidth, recordWidth};
-ghost use Rattle.images.specs.Read.{recordOf, requestOf, replicaOfHead, readLog, readReplica, readRequests, readReplicas, headerState, headerRefusal, refused, finished, parsed, readBody};
-ghost use Rattle.images.specs.ReadLaws.{ReadAs};
+ghost use Rattle.images.specs.Read.{parsed, refusalOf, recordOf, requestOf, replicaOfHead, readReplica, headerRefusal, refused};
+ghost use Rattle.images.specs.Layout.{wholeRefusal, replicasAt, bodyOf, layoutRefusal, recordsOf, requestsOf, replicaLength, replicaWithLog};
 use crate::HEADER_WIDTH;
 use crate::MARK_SECOND;
 use crate::RECORD_WIDTH;
@@ -32,20 +31,6 @@ use parts::refusal::WRONG_MARK;
 use replica::Record;
 use replica::Replica;
 
-// A replica that was read: a number, 0 for accepted, and the place behind it.
-struct ReplicaRead {
-    refusal: u8,
-    at: usize,
-    replica: Replica,
-}
-
-// A state of which some parts were read, in the same way.
-struct StateRead {
-    refusal: u8,
-    at: usize,
-    state: State,
-}
-
 // A record: id, epoch. The caller shows that its two bytes are there.
 pub fn record_of(bytes: &[u8], at: usize) -> Record
     requires { ⌜ at + recordWidth ≤ length (now bytes) ⌝ }
@@ -58,34 +43,21 @@ pub fn record_of(bytes: &[u8], at: usize) -> Record
     }
 }
 
-// The replica with the records of its log.
-fn read_log(bytes: &[u8], at: usize, p: Replica) -> ReplicaRead
-    requires { ⌜ p .end ≤ 16 ⌝ }
-    requires { ⌜ at ≤ length (now bytes) ⌝ }
-    ensures { λ r. ⌜ ReadAs (readLog p (drop at (now (bytes .entry)))) (now (bytes .entry)) (r .refusal) (r .at) (r .replica) ⌝ }
+// The first records from a place on, as many as are asked for. The caller shows that the array has room for them and that their
+// bytes are there.
+fn log_of(bytes: &[u8], at: usize, count: usize) -> [Record; 16]
+    requires { ⌜ count ≤ 16 ⌝ }
+    requires { ⌜ at + recordWidth * count ≤ length (now bytes) ⌝ }
+    ensures { λ r. ⌜ r ≡ recordsOf count (drop at (now (bytes .entry))) ⌝ }
 {
-    let mut q = p;
-    let end = p.end as usize;
+    let mut log = [Record { id: 0, epoch: 0 }; 16];
     let mut x: usize = 0;
-    let mut pos = at;
-    while x < end {
-        if bytes.len() - pos < RECORD_WIDTH {
-            return ReplicaRead {
-                refusal: TOO_SHORT,
-                at: pos,
-                replica: q,
-            };
-        }
-        let r = record_of(bytes, pos);
-        q.log[x] = r;
-        pos = pos + RECORD_WIDTH;
+    while x < count {
+        let r = record_of(bytes, at + RECORD_WIDTH * x);
+        log[x] = r;
         x = x + 1;
     }
-    ReplicaRead {
-        refusal: ACCEPTED,
-        at: pos,
-        replica: q,
-    }
+    log
 }
 
 // A request: leader, ISR.
@@ -100,34 +72,24 @@ fn request_of(bytes: &[u8], at: usize) -> Request
     }
 }
 
-// The state with its requests.
-fn read_requests(bytes: &[u8], at: usize, s: State) -> StateRead
-    requires { ⌜ Bounded s ⌝ }
-    requires { ⌜ at ≤ length (now bytes) ⌝ }
-    ensures { λ r. ⌜ ReadAs (readRequests s (drop at (now (bytes .entry)))) (now (bytes .entry)) (r .refusal) (r .at) (r .state) ⌝ }
+// The requests, as many as are asked for. The caller shows that the array has room for them and that their bytes are there.
+fn requests_of(bytes: &[u8], count: usize) -> [Request; 16]
+    requires { ⌜ count ≤ 16 ⌝ }
+    requires { ⌜ headerWidth + requestWidth * count ≤ length (now bytes) ⌝ }
+    ensures { λ r. ⌜ r ≡ requestsOf count (drop headerWidth (now (bytes .entry))) ⌝ }
 {
-    let mut t = s;
-    let next = s.next_leader_epoch as usize;
+    let none = Request {
+        leader: Leader::None,
+        isr: 0,
+    };
+    let mut requests = [none; 16];
     let mut e: usize = 0;
-    let mut pos = at;
-    while e < next {
-        if bytes.len() - pos < REQUEST_WIDTH {
-            return StateRead {
-                refusal: TOO_SHORT,
-                at: pos,
-                state: t,
-            };
-        }
-        let q = request_of(bytes, pos);
-        t.requests[e] = q;
-        pos = pos + REQUEST_WIDTH;
+    while e < count {
+        let q = request_of(bytes, HEADER_WIDTH + REQUEST_WIDTH * e);
+        requests[e] = q;
         e = e + 1;
     }
-    StateRead {
-        refusal: ACCEPTED,
-        at: pos,
-        state: t,
-    }
+    requests
 }
 
 // A replica up to its log: hw, epoch, leader, ISR, end.
@@ -148,65 +110,86 @@ fn replica_of_head(bytes: &[u8], at: usize) -> Replica
     }
 }
 
-// A replica, whose end is tested before its log is read.
-fn read_replica(bytes: &[u8], at: usize, log_size: u8) -> ReplicaRead
-    requires { ⌜ «log_size» ≤ 16 ⌝ }
-    requires { ⌜ at ≤ length (now bytes) ⌝ }
-    ensures { λ r. ⌜ ReadAs (readReplica «log_size» (drop at (now (bytes .entry)))) (now (bytes .entry)) (r .refusal) (r .at) (r .replica) ⌝ }
+// A replica with its log. The caller shows that its end is in the array and that its bytes are there.
+fn replica_of(bytes: &[u8], at: usize) -> Replica
+    requires { ⌜ byteAt (drop at (now bytes)) 4 ≤ 16 ⌝ }
+    requires { ⌜ at + replicaLength (drop at (now bytes)) ≤ length (now bytes) ⌝ }
+    ensures { λ r. ⌜ r ≡ replicaWithLog (drop at (now (bytes .entry))) ⌝ }
 {
-    if bytes.len() - at < REPLICA_WIDTH {
-        return ReplicaRead {
-            refusal: TOO_SHORT,
-            at: at,
-            replica: Replica::zero(),
-        };
-    }
-    let p = replica_of_head(bytes, at);
-    if log_size < p.end {
-        return ReplicaRead {
-            refusal: BROKEN_STATE,
-            at: at,
-            replica: p,
-        };
-    }
-    read_log(bytes, at + REPLICA_WIDTH, p)
+    let mut p = replica_of_head(bytes, at);
+    let log = log_of(bytes, at + REPLICA_WIDTH, p.end as usize);
+    p.log = log;
+    p
 }
 
-// The state with its replicas.
-fn read_replicas(bytes: &[u8], at: usize, s: State) -> StateRead
-    requires { ⌜ Bounded s ⌝ }
-    requires { ⌜ logSize (s .limits) ≤ 16 ⌝ }
+// The refusal of a replica, whose end is tested before its log; 0 where it is there.
+fn replica_refusal(bytes: &[u8], at: usize, log_size: u8) -> u8
     requires { ⌜ at ≤ length (now bytes) ⌝ }
-    ensures { λ r. ⌜ ReadAs (readReplicas s (drop at (now (bytes .entry)))) (now (bytes .entry)) (r .refusal) (r .at) (r .state) ⌝ }
+    ensures { λ r. ⌜ r ≡ refusalOf (readReplica «log_size» (drop at (now (bytes .entry)))) ⌝ }
 {
-    let mut t = s;
-    let c = s.limits;
-    let count = c.replica_count as usize;
-    let mut i: usize = 0;
+    if bytes.len() - at < REPLICA_WIDTH {
+        return TOO_SHORT;
+    }
+    let end = bytes[at + 4];
+    if log_size < end {
+        return BROKEN_STATE;
+    }
+    if bytes.len() - at < REPLICA_WIDTH + RECORD_WIDTH * (end as usize) {
+        return TOO_SHORT;
+    }
+    ACCEPTED
+}
+
+// The refusal of the replicas, the last part of an image; 0 where all are there and nothing is left over. The caller shows that the
+// first ten bytes are there.
+fn replicas_refusal(bytes: &[u8], at: usize) -> u8
+    requires { ⌜ headerWidth ≤ length (now bytes) ⌝ }
+    requires { ⌜ at ≤ length (now bytes) ⌝ }
+    ensures { λ r. ⌜ r ≡ wholeRefusal (replicasAt (now (bytes .entry)) at) ⌝ }
+{
+    let count = bytes[2];
+    let log_size = bytes[3];
     let mut pos = at;
+    let mut i: u8 = 0;
     while i < count {
-        let read = read_replica(bytes, pos, c.log_size);
-        if read.refusal != ACCEPTED {
-            return StateRead {
-                refusal: read.refusal,
-                at: pos,
-                state: t,
-            };
+        let refusal = replica_refusal(bytes, pos, log_size);
+        if refusal != ACCEPTED {
+            return refusal;
         }
-        let p = read.replica;
-        t.replicas[i] = p;
-        pos = read.at;
+        pos = pos + REPLICA_WIDTH + RECORD_WIDTH * (bytes[pos + 4] as usize);
         i = i + 1;
     }
-    StateRead {
-        refusal: ACCEPTED,
-        at: pos,
-        state: t,
+    if pos < bytes.len() {
+        return LEFT_OVER;
     }
+    ACCEPTED
+}
+
+// The replicas. The caller shows that none is refused and that the arrays have room for them.
+fn replicas_of(bytes: &[u8], at: usize) -> [Replica; 5]
+    requires { ⌜ headerWidth ≤ length (now bytes) ⌝ }
+    requires { ⌜ at ≤ length (now bytes) ⌝ }
+    requires { ⌜ byteAt (now bytes) 2 ≤ 5 ⌝ }
+    requires { ⌜ byteAt (now bytes) 3 ≤ 16 ⌝ }
+    requires { ⌜ wholeRefusal (replicasAt (now bytes) at) ≡ accepted ⌝ }
+    ensures { λ r. ⌜ replicasAt (now (bytes .entry)) at ≡ parsed r [] ⌝ }
+{
+    let count = bytes[2] as usize;
+    let zero = Replica::zero();
+    let mut replicas = [zero; 5];
+    let mut pos = at;
+    let mut i: usize = 0;
+    while i < count {
+        let p = replica_of(bytes, pos);
+        replicas[i] = p;
+        pos = pos + REPLICA_WIDTH + RECORD_WIDTH * (p.end as usize);
+        i = i + 1;
+    }
+    replicas
 }
 
 // The refusal by the first ten bytes; 0 where they are in range.
-pub(crate) fn header_refusal(bytes: &[u8]) -> u8
+fn header_refusal(bytes: &[u8]) -> u8
     ensures { λ r. ⌜ r ≡ headerRefusal (now (bytes .entry)) ⌝ }
 {
     if bytes.len() < HEADER_WIDTH {
@@ -225,29 +208,6 @@ pub(crate) fn header_refusal(bytes: &[u8]) -> u8
     ACCEPTED
 }
 
-// The state that the first ten bytes give, with zeros for requests and replicas. The caller shows also that the next epoch is
-// in range.
-fn header_state(bytes: &[u8]) -> State
-    requires { ⌜ headerWidth ≤ length (now bytes) ⌝ }
-    requires { ⌜ byteAt (now bytes) 6 ≤ 16 ⌝ }
-    ensures { λ r. ⌜ r ≡ headerState (now (bytes .entry)) ⌝ }
-{
-    let limits = cluster::limits_of(bytes);
-    let epoch = parts::last_epoch(bytes[6]);
-    let leader = Leader::of_byte(bytes[8]);
-    let quorum = Quorum {
-        epoch: epoch,
-        leader: leader,
-        isr: bytes[9],
-    };
-    let mut s = State::zero();
-    s.limits = limits;
-    s.next_leader_epoch = bytes[6];
-    s.next_record_id = bytes[7];
-    s.quorum = quorum;
-    s
-}
-
 // A refusal, with the all-zero state.
 pub(crate) fn refused(number: u8) -> Outcome
     ensures { λ r. ⌜ r ≡ refused number ⌝ }
@@ -259,40 +219,44 @@ pub(crate) fn refused(number: u8) -> Outcome
     }
 }
 
-// What the state of all parts gives, with the place behind the last: bytes left over are refused, and then a state that breaks
-// a rule. The caller shows that the place is in the bytes.
-fn finish(bytes: &[u8], at: usize, s: State) -> Outcome
-    requires { ⌜ at ≤ length (now bytes) ⌝ }
-    ensures { λ r. ⌜ r ≡ finished (parsed s (drop at (now (bytes .entry)))) ⌝ }
+// The refusal of an image by its bytes: by the first ten, and then by a part that is missing, an end above L or bytes left over. 0
+// where its parts are all there; whether the state meets the rules is not asked.
+pub fn layout_refusal(bytes: &[u8]) -> u8
+    ensures { λ r. ⌜ r ≡ layoutRefusal (now (bytes .entry)) ⌝ }
 {
-    if at < bytes.len() {
-        return refused(LEFT_OVER);
+    let refusal = header_refusal(bytes);
+    if refusal != ACCEPTED {
+        return refusal;
     }
-    let broken = s.state_refusal();
-    if broken != ACCEPTED {
-        return refused(broken);
+    let replicas = HEADER_WIDTH + REQUEST_WIDTH * (bytes[6] as usize);
+    if bytes.len() < replicas {
+        return TOO_SHORT;
     }
-    Outcome {
-        refusal: ACCEPTED,
-        state: s,
-    }
+    replicas_refusal(bytes, replicas)
 }
 
-// What follows the first ten bytes. The caller shows that they are in range.
-pub(crate) fn read_body(bytes: &[u8]) -> Outcome
-    requires { ⌜ headerRefusal (now bytes) ≡ accepted ⌝ }
-    ensures { λ r. ⌜ r ≡ readBody (now (bytes .entry)) ⌝ }
+// The state of an image, with zeros in its unused room. The caller, one of our own crates, shows that its parts are all there.
+pub fn state_of(bytes: &[u8]) -> State
+    requires { ⌜ layoutRefusal (now bytes) ≡ accepted ⌝ }
+    ensures { λ r. ⌜ bodyOf (now (bytes .entry)) ≡ parsed r [] ⌝ }
 {
-    let header = header_state(bytes);
-    let first = read_requests(bytes, HEADER_WIDTH, header);
-    if first.refusal != ACCEPTED {
-        return refused(first.refusal);
+    let limits = cluster::limits_of(bytes);
+    let next = bytes[6];
+    let epoch = parts::last_epoch(next);
+    let leader = Leader::of_byte(bytes[8]);
+    let quorum = Quorum {
+        epoch: epoch,
+        leader: leader,
+        isr: bytes[9],
+    };
+    let requests = requests_of(bytes, next as usize);
+    let replicas = replicas_of(bytes, HEADER_WIDTH + REQUEST_WIDTH * (next as usize));
+    State {
+        limits: limits,
+        next_leader_epoch: next,
+        next_record_id: bytes[7],
+        quorum: quorum,
+        requests: requests,
+        replicas: replicas,
     }
-    let with_requests = first.state;
-    let second = read_replicas(bytes, first.at, with_requests);
-    if second.refusal != ACCEPTED {
-        return refused(second.refusal);
-    }
-    let whole = second.state;
-    finish(bytes, second.at, whole)
 }

@@ -8,7 +8,8 @@ ghost use lib.ListN.{length};
 ghost use Rattle.cluster.specs.Rules.{rules, Bounded, LogsBounded};
 ghost use Rattle.logic.specs.Concat.{concatBelow};
 ghost use Rattle.logic.specs.Stores.{Stored};
-ghost use Rattle.images.specs.Image.{recordBytes, recordBytesAt, requestBytes, requestsBytes, replicaHeadBy, replicaBytes, replicasBytes, headerBytes, image};
+ghost use Rattle.images.specs.Image.{recordBytes, recordBytesAt, requestBytes, replicaHeadBy, replicaBytes, replicasBytes, headerBytes, image};
+ghost use Rattle.images.specs.WriteLaws.{requestBytesIn};
 use crate::HEADER_WIDTH;
 use crate::MARK_SECOND;
 use crate::RECORD_WIDTH;
@@ -63,17 +64,16 @@ fn put_request(out: &mut [u8], at: usize, q: Request) -> usize
     put_pair(&mut out[..], at, l.byte(), q.isr)
 }
 
-// The requests that were sent.
-fn put_requests(out: &mut [u8], at: usize, s: State) -> usize
-    requires { ⌜ Bounded s ⌝ }
-    requires { ⌜ at + length (requestsBytes s) ≤ length (now out) ⌝ }
-    ensures { λ n. ⌜ Stored (now (out .entry)) at (requestsBytes s) (now (out .exit)) n ⌝ }
+// The first requests, as many as are asked for. They come without the state, which would be copied.
+fn put_requests(out: &mut [u8], at: usize, requests: [Request; 16], count: usize) -> usize
+    requires { ⌜ count ≤ 16 ⌝ }
+    requires { ⌜ at + length (concatBelow count (requestBytesIn requests)) ≤ length (now out) ⌝ }
+    ensures { λ n. ⌜ Stored (now (out .entry)) at (concatBelow count (requestBytesIn requests)) (now (out .exit)) n ⌝ }
 {
-    let next = s.next_leader_epoch as usize;
     let mut e: usize = 0;
     let mut pos = at;
-    while e < next {
-        let q = s.requests[e];
+    while e < count {
+        let q = requests[e];
         pos = put_request(&mut out[..], pos, q);
         e = e + 1;
     }
@@ -154,8 +154,9 @@ pub fn put_image(out: &mut [u8], s: State) -> usize
     requires { ⌜ length (image s) ≤ length (now out) ⌝ }
     ensures { λ n. ⌜ Stored (now (out .entry)) 0 (image s) (now (out .exit)) n ⌝ }
 {
-    let requests = put_header(&mut out[..], s);
-    let replicas = put_requests(&mut out[..], requests, s);
+    let requests = s.requests;
+    let first = put_header(&mut out[..], s);
+    let replicas = put_requests(&mut out[..], first, requests, s.next_leader_epoch as usize);
     put_replicas(&mut out[..], replicas, s)
 }
 

@@ -1,5 +1,6 @@
 use native.Mathlib.Omega.{arith}
 use lib.ListN.{length-append}
+use borrow.Author.Needs.{needs}
 use Rattle.logic.specs.Stores.{stored-length, stored-more}
 use Rattle.cluster.specs.RuleLaws.{rules-bounded, rules-logs-bounded}
 use Rattle.images.specs.Image.{image, requestsBytes, replicasBytes}
@@ -9,32 +10,35 @@ use Rattle.images.proofs.write.put_image.Tie as tie
 put-header-requires : tie.Need-put-header-requires
 unfolding image
 put-header-requires c κs =
-    let k = length-append (requestsBytes (c .before .before .args .s)) (replicasBytes (c .before .before .args .s)) in
+    let s = c .before .before .before .args .s in
+    let k = length-append (requestsBytes s) (replicasBytes s) in
     omega arith
 
-put-requests-requires : tie.Need-put-requests-requires
-unfolding image
-put-requests-requires c κs =
-    let a = c .before .before .before .before .before .before .args in
-    let k = length-append (requestsBytes (a .s)) (replicasBytes (a .s)) in
-    let w = c .before .before .before .put-header .ensures in
-    (rules-bounded (a .s) (c .before .before .before .before .before .before .pre .0), omega (arith, w .place, stored-length w))
+cast-put-requests : tie.Need-cast-put-requests
+cast-put-requests c = search needs
 
-put-replicas-requires : tie.Need-put-replicas-requires
-unfolding image
-put-replicas-requires c κs =
-    let z = c .before .before .before .before .before .before .before .before .before .before in
+put-requests-requires : tie.Need-put-requests-requires
+unfolding image requestsBytes
+put-requests-requires c κs =
+    let z = c .before .before .before .before .before .before .before .before in
     let s = z .args .s in
     let k = length-append (requestsBytes s) (replicasBytes s) in
-    let v = c .before .before .before .before .before .before .before .put-header .ensures in
+    let w = c .before .before .before .before .put-header .ensures in
+    (rules-bounded s (z .pre .0) .requests, omega (arith, w .place, stored-length w))
+
+put-replicas-requires : tie.Need-put-replicas-requires
+unfolding image requestsBytes
+put-replicas-requires c κs =
+    let z = c .before .before .before .before .before .before .before .before .before .before .before .before in
+    let s = z .args .s in
+    let k = length-append (requestsBytes s) (replicasBytes s) in
+    let v = c .before .before .before .before .before .before .before .before .put-header .ensures in
     let w = c .before .before .before .put-requests .ensures in
     (rules-bounded s (z .pre .0), (rules-logs-bounded s (z .pre .0), omega (arith, v .place, stored-length v, w .place, stored-length w)))
 
 whole : tie.Need-returns
-unfolding image
-whole c =
-    stored-more (c .before .before .before .before .before .before .before .before .before .before .put-header .ensures)
-    (stored-more (c .before .before .before .before .before .before .put-requests .ensures) (c .before .before .put-replicas .ensures))
+unfolding image requestsBytes
+whole c = stored-more (c .before .before .before .before .before .before .before .before .before .before .before .put-header .ensures) (stored-more (c .before .before .before .before .before .before .put-requests .ensures) (c .before .before .put-replicas .ensures))
 
 same-length : tie.Need-same-length
 same-length c = stored-length (whole c)
@@ -45,4 +49,10 @@ returns c = whole c
 pub put-image-spec : {M : Type 1} → statement M
 put-image-spec =
     tie.close
-    (tie.spec put-header-requires put-requests-requires put-replicas-requires same-length returns)
+    (tie.spec
+    put-header-requires
+    cast-put-requests
+    put-requests-requires
+    put-replicas-requires
+    same-length
+    returns)

@@ -3,19 +3,15 @@ use native.Mathlib.Omega.{arith}
 use borrow.Author.Needs.{needs}
 use Rattle.logic.specs.Stores.{Stored, stored-length, storing-start, storing-room, storing-more, storing-end}
 use Rattle.logic.specs.Concat.{concatBelow}
-use Rattle.cluster.specs.State.{nextLeaderEpoch}
-use Rattle.images.specs.Image.{requestBytesAt, requestsBytes}
+use Rattle.images.specs.WriteLaws.{requestBytesIn}
 use Rattle.images.proofs.write.put_requests.Statement.{statement}
 use Rattle.images.proofs.write.put_requests.Tie as tie
 
 abbrev Inv-loop : tie.InvT-loop
-Inv-loop out₀ at s next e₀ pos₀ out e pos = (e ≤ next) × Stored out₀ at (concatBelow e (requestBytesAt s)) out pos
+Inv-loop out₀ at count requests e₀ pos₀ out e pos = (e ≤ count) × Stored out₀ at (concatBelow e (requestBytesIn requests)) out pos
 
 abbrev μ-loop : tie.MeasureT-loop
-μ-loop out₀ at s next e₀ pos₀ out e pos = next - e
-
-cast-next : tie.Need-cast-next Inv-loop μ-loop
-cast-next c = search needs
+μ-loop out₀ at count requests e₀ pos₀ out e pos = count - e
 
 loop-holds : tie.Need-loop-holds Inv-loop μ-loop
 loop-holds c = (omega arith, storing-start _ _ _)
@@ -23,15 +19,14 @@ loop-holds c = (omega arith, storing-start _ _ _)
 mul-q : tie.Need-mul-q Inv-loop μ-loop
 mul-q c = search needs
 
-element-copy-out-q : tie.Need-element-copy-out-q Inv-loop μ-loop
-element-copy-out-q c = search needs
+array-copy-out-q : tie.Need-array-copy-out-q Inv-loop μ-loop
+array-copy-out-q c = search needs
 
 put-request-requires : tie.Need-put-request-requires Inv-loop μ-loop
-unfolding requestsBytes
 put-request-requires c κs =
     let a = c .before .before .before .before .before .args in
     let l = c .before .before .before .loop in
-    storing-room (requestBytesAt (a .t3)) (l .e) (nextLeaderEpoch (a .t3)) (omega arith) (l .inv .1) (omega arith)
+    storing-room (requestBytesIn (a .t3)) (l .e) (a .count) (omega arith) (l .inv .1) (omega arith)
 
 add-e : tie.Need-add-e Inv-loop μ-loop
 add-e c = search needs
@@ -41,19 +36,17 @@ loop-less c = search needs
 
 loop-again : tie.Need-loop-again Inv-loop μ-loop
 loop-again c =
-    let a = c .before .before .before .before .before .before .before .before .args in
     let l = c .before .before .before .before .before .before .loop in
-    (omega arith, storing-more (requestBytesAt (a .t3)) (l .e) (l .inv .1) (c .before .before .put-request .ensures))
+    (omega arith, storing-more (requestBytesIn (c .before .before .before .before .before .before .before .before .args .t3)) (l .e) (l .inv .1) (c .before .before .put-request .ensures))
 
 same-length : tie.Need-same-length Inv-loop μ-loop
 same-length c = stored-length (c .before .loop .inv .1)
 
 returns : tie.Need-returns Inv-loop μ-loop
-unfolding requestsBytes
 returns c =
     let a = c .before .before .before .args in
     let l = c .before .loop in
-    storing-end (requestBytesAt (a .t3)) (l .e) (nextLeaderEpoch (a .t3)) (l .inv .0) (omega arith) (l .inv .1)
+    storing-end (requestBytesIn (a .t3)) (l .e) (a .count) (l .inv .0) (omega arith) (l .inv .1)
 
 pub put-requests-spec : {M : Type 1} → statement M
 put-requests-spec =
@@ -61,10 +54,9 @@ put-requests-spec =
     (tie.spec
     Inv-loop
     μ-loop
-    cast-next
     loop-holds
     mul-q
-    element-copy-out-q
+    array-copy-out-q
     put-request-requires
     add-e
     loop-less

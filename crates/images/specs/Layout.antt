@@ -1,0 +1,67 @@
+-- An image is read in two steps: whether all its parts are there and nothing is left over, and then the state of parts that are
+-- known to be there. What the functions of each step say. Assumes nothing.
+use Prim.Native.Nat.{ℕ, zero, suc, _+_, _*_}
+use mathlib.Core.List.{List, [], _∷_}
+use lib.ListN.{drop, set, replicate}
+use Rattle.parts.specs.Refusal.{accepted, brokenState, tooShort, leftOver}
+use Rattle.parts.specs.Mark.{byteAt}
+use Rattle.replica.specs.declared.Record.{Record}
+use Rattle.replica.specs.declared.Replica.{Replica}
+use Rattle.replica.specs.Replica.{zeroRecord, zeroReplica, withLog}
+use Rattle.cluster.specs.declared.Request.{Request}
+use Rattle.cluster.specs.declared.State.{State}
+use Rattle.cluster.specs.State.{zeroRequest}
+use Rattle.images.specs.Image.{headerWidth, requestWidth, replicaWidth, recordWidth}
+use Rattle.images.specs.Read.{Parsed, missing, endAbove, parsed, andThen, fill, recordOf, requestOf, replicaOfHead, readReplica, readRequests, readReplicas, headerState, headerRefusal}
+
+-- ---- the first step: whether the parts are there
+-- "a missing part 21 and an end above L 1 as met; bytes left over 23"
+unfoldable pub wholeRefusal : {A : Type 0} → Parsed A → ℕ
+wholeRefusal missing = tooShort
+wholeRefusal endAbove = brokenState
+wholeRefusal (parsed x (b ∷ bs)) = leftOver
+wholeRefusal (parsed x []) = accepted
+
+-- the replicas, from a place of the image on
+abbrev pub replicasAt : List ℕ → ℕ → Parsed (List Replica)
+replicasAt bs at = fill (readReplica (byteAt bs 3)) (byteAt bs 2) (replicate 5 zeroReplica) (drop at bs)
+
+-- the requests and the replicas
+abbrev pub bodyOf : List ℕ → Parsed State
+bodyOf bs = andThen (readRequests (headerState bs) (drop headerWidth bs)) readReplicas
+
+-- the refusal by the first ten bytes, and then by the parts behind them
+unfoldable pub layoutBy : ℕ → List ℕ → ℕ
+layoutBy zero bs = wholeRefusal (bodyOf bs)
+layoutBy (suc n) bs = suc n
+
+unfoldable pub layoutRefusal : List ℕ → ℕ
+layoutRefusal bs = layoutBy (headerRefusal bs) bs
+
+-- ---- the second step: what the parts say
+-- part x of parts of w bytes
+abbrev pub partAt : {A : Type 0} → ℕ → (List ℕ → A) → List ℕ → ℕ → A
+partAt w value bs x = value (drop (w * x) bs)
+
+-- an array with f 0, f 1, .. in its first n places
+unfoldable pub storedBelow : {A : Type 0} → ℕ → (ℕ → A) → List A → List A
+storedBelow zero f array = array
+storedBelow (suc n) f array = set (storedBelow n f array) n (f n)
+
+-- the first n records, and the first n requests
+abbrev pub recordsOf : ℕ → List ℕ → List Record
+recordsOf n bs = storedBelow n (partAt recordWidth recordOf bs) (replicate 16 zeroRecord)
+
+abbrev pub requestsOf : ℕ → List ℕ → List Request
+requestsOf n bs = storedBelow n (partAt requestWidth requestOf bs) (replicate 16 zeroRequest)
+
+-- a replica has as many bytes as its end says
+abbrev pub replicaLength : List ℕ → ℕ
+replicaLength bs = replicaWidth + recordWidth * byteAt bs 4
+
+abbrev pub replicaWithLog : List ℕ → Replica
+replicaWithLog bs = withLog (replicaOfHead bs) (recordsOf (byteAt bs 4) (drop replicaWidth bs))
+
+-- where the replicas start
+abbrev pub replicasPlace : List ℕ → ℕ
+replicasPlace bs = headerWidth + requestWidth * byteAt bs 6
