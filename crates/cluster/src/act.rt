@@ -36,11 +36,11 @@ impl State {
         }
     }
 
-    // The next state by the table. The caller shows also that the table refuses nothing.
-    fn effect(self, action: Action) -> State
+    // The next state by the table, where the action is accepted: nothing is tested, and the state is not made tidy. The caller
+    // shows that the state meets the rules and that the action is not refused on it.
+    pub fn effect(self, action: Action) -> State
         requires { ⌜ rules self ≡ true ⌝ }
-        requires { ⌜ operandsFit (self .limits) action ≡ true ⌝ }
-        requires { ⌜ tableRefusal (kindOf (action .kind)) self (action .a) (action .b) (action .e) ≡ accepted ⌝ }
+        requires { ⌜ actionRefusal self action ≡ accepted ⌝ }
         ensures { λ r. ⌜ r ≡ effect self action ⌝ }
     {
         let kind = Kind::of(action.kind);
@@ -75,7 +75,7 @@ impl State {
 
     // What an action answers on a state that is known to meet the rules and to be tidy: neither is tested. The caller
     // shows both. The answer is that of `act`.
-    pub fn step(self, action: Action) -> Outcome
+    fn step(self, action: Action) -> Outcome
         requires { ⌜ rules self ≡ true ⌝ }
         requires { ⌜ tidy self ≡ self ⌝ }
         ensures { λ r. ⌜ r ≡ step self action ⌝ }

@@ -10,12 +10,11 @@ use native.Mathlib.Omega.{arith}
 use lib.ListN.{length, take, drop, length-drop}
 use lib.Seq.{length-take-le, drop-drop}
 use Rattle.logic.specs.Tests.{firstFailing}
-use Rattle.logic.specs.Greatest.{greatestOf, greatestBelow, greatest-none, greatest-more}
+use Rattle.logic.specs.Greatest.{greatestOf}
 use Rattle.logic.specs.Pieces.{pieces, pieces-none, pieces-more}
 use Rattle.parts.specs.Refusal.{accepted}
 use Rattle.cluster.specs.declared.State.{State}
-use Rattle.cluster.specs.State.{replicaCount}
-use Rattle.questions.specs.Exposed.{exposed, presumingHw}
+use Rattle.questions.specs.Exposed.{exposed}
 use Rattle.runs.specs.declared.Verdict.{Verdict}
 use Rattle.runs.specs.declared.judging.Progress.{Progress}
 use Rattle.runs.specs.Run.{recordWidth, actOn, recordsOf, Trace, stopped, acceptedThen, traceBy, traceFrom, verdictOf, lastOf, weakHolds, strongHolds, verdictFrom}
@@ -53,29 +52,17 @@ progressOf count at weak strong greatest = record { accepted = count; at = at; w
 abbrev pub soFar : Progress → State → Verdict
 soFar p s = verdictOf (p .accepted) accepted (p .at) (p .weak) (p .strong) (p .exposed) s
 
--- one accepted action more, which handed back s, before it is asked what s exposes
+-- one accepted action more, which handed back s
 abbrev pub counted : Progress → State → Progress
 counted p s =
     progressOf (p .accepted + 1) (p .at + recordWidth)
     (failedAt (p .weak) (weakHolds s) (p .accepted + 1))
     (failedAt (p .strong) (strongHolds s) (p .accepted + 1))
-    (p .exposed)
+    (max (p .exposed) (exposed s))
 
--- at least k is exposed
-abbrev pub raised : Progress → ℕ → Progress
-raised p k = progressOf (p .accepted) (p .at) (p .weak) (p .strong) (max (p .exposed) k)
-
--- the turns of the loop over the replicas of s: its start, one more, and its end, which is one action more
-pub raised-none : (p : Progress) (f : ℕ → ℕ) → p ≡ raised p (greatestBelow 0 f)
-raised-none p f = ap (λ (k : ℕ). progressOf (p .accepted) (p .at) (p .weak) (p .strong) k) (rw (greatest-none f) (omega arith))
-
-pub raised-more : (p : Progress) (f : ℕ → ℕ) (r : ℕ) → raised (raised p (greatestBelow r f)) (f r) ≡ raised p (greatestBelow (r + 1) f)
-raised-more p f r = ap (λ (k : ℕ). progressOf (p .accepted) (p .at) (p .weak) (p .strong) k) (rw (← greatest-more r f) (omega arith))
-
-pub raised-done : (p : Progress) (s t : State) (r : ℕ) → r ≡ replicaCount (s .limits)
-    → soFar (raised (counted p s) (greatestBelow r (presumingHw s))) s ≡ after (soFar p t) s
-unfolding exposed
-raised-done p s t r e = ap (λ (k : ℕ). soFar (raised (counted p s) (greatestBelow k (presumingHw s))) s) e
+-- the verdict so far, whatever the state before
+pub counted-so-far : (p : Progress) (s t : State) → soFar (counted p s) s ≡ after (soFar p t) s
+counted-so-far p s t = refl
 
 -- ---- the verdict so far and what follows
 -- the verdict of a run that has come to v, and goes on with this trace

@@ -14,7 +14,8 @@ use Rattle.cluster.specs.declared.Outcome.{Outcome}
 use Rattle.cluster.specs.State.{tidy}
 use Rattle.cluster.specs.Rules.{rules}
 use Rattle.cluster.specs.Fresh.{answer}
-use Rattle.cluster.specs.Act.{act}
+use Rattle.cluster.specs.Act.{actionRefusal, effect, step, act}
+use Rattle.cluster.specs.ActLaws.{answer-number, answer-zero}
 use Rattle.actions.specs.Kept.{Kept, kept-same, step-kept, step-is-act}
 use Rattle.runs.specs.Run.{recordWidth, recordRefusal, recordAnswer, actionMark, actionIn, actOn}
 
@@ -64,16 +65,39 @@ pub whole-acts : (s : State) (bytes : List ℕ) → recordRefusal actionMark byt
 unfolding actOn
 whole-acts s bytes = record-said (recordRefusal actionMark bytes) s (act s (actionIn bytes))
 
--- and so does an accepted one
-pub accepted-acts : (s : State) (bytes : List ℕ) → actOn s bytes .refusal ≡ accepted → actOn s bytes ≡ act s (actionIn bytes)
+-- and so does an accepted one, which is such a record
+accepted-whole : (s : State) (bytes : List ℕ) → actOn s bytes .refusal ≡ accepted → recordRefusal actionMark bytes ≡ accepted
 unfolding actOn
-accepted-acts s bytes h = whole-acts s bytes (record-accepted (recordRefusal actionMark bytes) s (act s (actionIn bytes)) h)
+accepted-whole s bytes = record-accepted (recordRefusal actionMark bytes) s (act s (actionIn bytes))
+
+pub accepted-acts : (s : State) (bytes : List ℕ) → actOn s bytes .refusal ≡ accepted → actOn s bytes ≡ act s (actionIn bytes)
+accepted-acts s bytes h = whole-acts s bytes (accepted-whole s bytes h)
 
 -- any other answers by its length and its mark
 pub unread : (s : State) (bytes : List ℕ) (n : ℕ) → recordRefusal actionMark bytes ≡ suc n → actOn s bytes ≡ answer (suc n) s
 unfolding actOn
 unread s bytes n h =
     ap (λ (k : ℕ). recordAnswer k s (act s (actionIn bytes))) h ∙ record-refused (suc n) s (act s (actionIn bytes)) (λ e. omega arith)
+
+-- ---- an action on a state that meets the rules and is tidy
+module _ (s : State) (bytes : List ℕ) (h : rules s ≡ true) (t : tidy s ≡ s) where
+  -- a whole record with the action mark takes its action's step, and so has its number
+  steps : recordRefusal actionMark bytes ≡ accepted → actOn s bytes ≡ step s (actionIn bytes)
+  steps whole = whole-acts s bytes whole ∙ sym (step-is-act s (actionIn bytes) h t)
+
+  pub whole-number : recordRefusal actionMark bytes ≡ accepted → actionRefusal s (actionIn bytes) ≡ actOn s bytes .refusal
+  unfolding step
+  whole-number whole = sym (ap (λ (o : Outcome). o .refusal) (steps whole) ∙ answer-number _ s (effect s (actionIn bytes)))
+
+  -- an accepted one: its action is accepted, and the effect of that is the state that the record hands back
+  pub accepted-number : actOn s bytes .refusal ≡ accepted → actionRefusal s (actionIn bytes) ≡ accepted
+  accepted-number ok = whole-number (accepted-whole s bytes ok) ∙ ok
+
+  pub accepted-state : actOn s bytes .refusal ≡ accepted → effect s (actionIn bytes) ≡ actOn s bytes .state
+  unfolding step
+  accepted-state ok =
+      ap (λ (o : Outcome). o .state)
+      (answer-zero _ s (effect s (actionIn bytes)) (accepted-number ok) ∙ sym (steps (accepted-whole s bytes ok)))
 
 -- the state that a record hands back, of a state that meets the rules and is tidy
 pub act-on-kept : (s : State) (bytes : List ℕ) → rules s ≡ true → tidy s ≡ s → Kept s (actOn s bytes .state)

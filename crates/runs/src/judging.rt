@@ -54,8 +54,8 @@ impl Progress {
         }
     }
 
-    // One accepted action more, which handed back a state; what that exposes is left to the caller. The caller shows that the
-    // state meets the rules, and that no count is past the longest run.
+    // One accepted action more, which handed back a state. The caller shows that the state meets the rules, and that no count is
+    // past the longest run.
     pub(crate) fn after(self, next: State) -> Progress
         requires { ⌜ rules next ≡ true ⌝ }
         requires { ⌜ self .accepted ≤ longestRun ⌝ }
@@ -70,7 +70,7 @@ impl Progress {
             at: self.at + RECORD_WIDTH,
             weak: weak,
             strong: strong,
-            exposed: self.exposed,
+            exposed: parts::larger(self.exposed, questions::exposed(next)),
         }
     }
 

@@ -14,7 +14,6 @@ use cluster::State;
 use parts::refusal::ACCEPTED;
 use parts::refusal::RUN_TOO_LONG;
 use parts::refusal::TOO_SHORT;
-use questions::isr;
 
 // How many bytes a record has.
 const RECORD_WIDTH: usize = 6;
@@ -54,9 +53,8 @@ pub fn judge(run: &[u8]) -> Verdict
 }
 
 // The verdict from the configuration's fresh state on. The caller shows that the run is neither too long nor too short, and that
-// the state meets the rules and is tidy. Each record goes to its reader as its own part of the run; the rules are not tested
-// and no room is tidied again, since an accepted action keeps both. What a state exposes is asked here, replica by replica: as an
-// argument of `questions::exposed` the state would be copied.
+// the state meets the rules and is tidy. Each record goes to its readers as its own part of the run; the rules are not tested
+// and no room is tidied again, since an accepted action keeps both.
 fn judge_actions(run: &[u8], fresh: State) -> Verdict
     requires { ⌜ length (now run) ≤ longestRun ⌝ }
     requires { ⌜ recordWidth ≤ length (now run) ⌝ }
@@ -71,20 +69,12 @@ fn judge_actions(run: &[u8], fresh: State) -> Verdict
         if run.len() - at < RECORD_WIDTH {
             return progress.verdict(TOO_SHORT, state);
         }
-        let outcome = record::act_on(state, &run[at..at + RECORD_WIDTH]);
-        if outcome.refusal != ACCEPTED {
-            return progress.verdict(outcome.refusal, state);
+        let refusal = record::refusal_on(state, &run[at..at + RECORD_WIDTH]);
+        if refusal != ACCEPTED {
+            return progress.verdict(refusal, state);
         }
-        state = outcome.state;
+        state = record::state_after(state, &run[at..at + RECORD_WIDTH]);
         progress = progress.after(state);
-        let c = state.limits;
-        let n = c.replica_count;
-        let mut r: u8 = 0;
-        while r < n {
-            let p = state.replicas[r as usize];
-            progress.exposed = parts::larger(progress.exposed, isr::where_presuming(p, r, p.hw));
-            r = r + 1;
-        }
     }
     progress.verdict(ACCEPTED, state)
 }

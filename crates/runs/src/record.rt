@@ -2,9 +2,10 @@
 ghost use mathlib.Core.Path.{_≡_};
 ghost use mathlib.Core.Bool.{true};
 ghost use lib.ListN.{length};
+ghost use Rattle.parts.specs.Refusal.{accepted};
 ghost use Rattle.cluster.specs.State.{tidy};
 ghost use Rattle.cluster.specs.Rules.{rules};
-ghost use Rattle.runs.specs.Run.{recordWidth, configure, actOn};
+ghost use Rattle.runs.specs.Run.{recordWidth, configure, actionIn, actOn};
 use cluster::Action;
 use cluster::Outcome;
 use cluster::State;
@@ -31,25 +32,40 @@ pub(crate) fn configure(bytes: &[u8]) -> Outcome
     State::fresh(cluster::limits_of(bytes))
 }
 
-// What an action answers on a state that is known to meet the rules and to be tidy: the next state, or a number and the state as
-// given. The caller shows both of the state.
-pub(crate) fn act_on(s: State, bytes: &[u8]) -> Outcome
-    requires { ⌜ rules s ≡ true ⌝ }
-    requires { ⌜ tidy s ≡ s ⌝ }
+// The action of a record.
+fn action_of(bytes: &[u8]) -> Action
     requires { ⌜ length (now bytes) ≡ recordWidth ⌝ }
-    ensures { λ r. ⌜ r ≡ actOn s (now (bytes .entry)) ⌝ }
+    ensures { λ r. ⌜ r ≡ actionIn (now (bytes .entry)) ⌝ }
 {
-    if !mark::is_marked(bytes, ACTION_MARK) {
-        return Outcome {
-            refusal: WRONG_MARK,
-            state: s,
-        };
-    }
-    let action = Action {
+    Action {
         kind: bytes[2],
         a: bytes[3],
         b: bytes[4],
         e: bytes[5],
-    };
-    s.step(action)
+    }
+}
+
+// The refusal of an action, 2 to 20, or 0, on a state that is known to meet the rules and to be tidy: neither is tested. The
+// caller shows both.
+pub(crate) fn refusal_on(s: State, bytes: &[u8]) -> u8
+    requires { ⌜ rules s ≡ true ⌝ }
+    requires { ⌜ tidy s ≡ s ⌝ }
+    requires { ⌜ length (now bytes) ≡ recordWidth ⌝ }
+    ensures { λ r. ⌜ r ≡ actOn s (now (bytes .entry)) .refusal ⌝ }
+{
+    if !mark::is_marked(bytes, ACTION_MARK) {
+        return WRONG_MARK;
+    }
+    s.action_refusal(action_of(bytes))
+}
+
+// The state that an action hands back. The caller shows of the state what `refusal_on` asks, and that the action is accepted.
+pub(crate) fn state_after(s: State, bytes: &[u8]) -> State
+    requires { ⌜ rules s ≡ true ⌝ }
+    requires { ⌜ tidy s ≡ s ⌝ }
+    requires { ⌜ length (now bytes) ≡ recordWidth ⌝ }
+    requires { ⌜ actOn s (now bytes) .refusal ≡ accepted ⌝ }
+    ensures { λ r. ⌜ r ≡ actOn s (now (bytes .entry)) .state ⌝ }
+{
+    s.effect(action_of(bytes))
 }

@@ -1,34 +1,24 @@
-use Prim.Native.Nat.{ℕ, _+_, _≤_, _-_, max}
+use Prim.Native.Nat.{ℕ, _+_, _≤_, _-_}
 use mathlib.Core.Path.{_≡_, refl, sym, ap, _∙_}
 use mathlib.Core.Bool.{true}
+use mathlib.Core.List.{List}
 use native.Mathlib.Omega.{arith}
 use native.Mathlib.Nat.{add-sub-cancel-left}
 use lib.ListN.{length, take, drop, length-take, length-drop}
 use lib.Seq.{length-take-le}
 use borrow.Author.Needs.{needs}
-use Rattle.logic.specs.Greatest.{greatestBelow}
 use Rattle.parts.specs.Refusal.{accepted, tooShort}
 use Rattle.cluster.specs.declared.Outcome.{Outcome}
 use Rattle.cluster.specs.State.{tidy}
-use Rattle.cluster.specs.Actions.{replicaPresumesLeadership}
-use Rattle.cluster.specs.ActLaws.{replica-five}
 use Rattle.cluster.specs.Rules.{rules}
 use Rattle.actions.specs.Kept.{Kept}
-use Rattle.questions.specs.Exposed.{presumingHw}
 use Rattle.runs.specs.declared.judging.Progress.{Progress}
 use Rattle.runs.specs.declared.Verdict.{Verdict}
 use Rattle.runs.specs.Run.{recordWidth, actionMark, recordsOf, traceFrom, verdictFrom, actOn}
 use Rattle.runs.specs.RecordLaws.{record-short, unread, act-on-kept}
-use Rattle.runs.specs.Judging.{refusedBy, after, progressOf, soFar, raised, raised-none, raised-more, raised-done, fromHere, recordHere, here-begun, here-end, here-refused, here-on}
+use Rattle.runs.specs.Judging.{refusedBy, after, soFar, counted-so-far, fromHere, recordHere, here-begun, here-end, here-refused, here-on}
 use Rattle.runs.proofs.judge_actions.Statement.{statement}
 use Rattle.runs.proofs.judge_actions.Tie as tie
-
--- what the first r replicas expose is counted
-abbrev Inv-loop2 : tie.InvT-loop2
-Inv-loop2 run state progress₀ at n r₀ progress r = (r ≤ n) × (progress ≡ raised progress₀ (greatestBelow r (presumingHw state)))
-
-abbrev μ-loop2 : tie.MeasureT-loop2
-μ-loop2 run state progress₀ at n r₀ progress r = n - r
 
 -- the state meets the rules and is tidy, and the verdict from here is that of the run
 abbrev Inv-loop : tie.InvT-loop
@@ -39,185 +29,168 @@ Inv-loop run state₀ progress₀ state progress =
 abbrev μ-loop : tie.MeasureT-loop
 μ-loop run state₀ progress₀ state progress = length run - progress .at
 
--- the verdict so far
-abbrev here : tie.At-loop Inv-loop2 μ-loop2 Inv-loop μ-loop → Verdict
+-- the verdict so far, the run and its next record
+abbrev here : tie.At-loop Inv-loop μ-loop → Verdict
 here z = soFar (z .loop .progress) (z .loop .state)
 
-whole : (z : tie.At-loop Inv-loop2 μ-loop2 Inv-loop μ-loop)
-    → verdictFrom (z .before .before .before .args .fresh) (traceFrom (z .before .before .before .args .fresh) recordWidth (recordsOf (z .before .before .before .args .run .now)))
-    ≡ fromHere (here z) (z .before .before .before .args .run .now)
+abbrev runAt : tie.At-loop Inv-loop μ-loop → List ℕ
+runAt z = z .before .before .before .args .run .now
+
+abbrev nextAt : tie.At-loop Inv-loop μ-loop → List ℕ
+nextAt z = recordHere (here z) (runAt z)
+
+-- the verdict of the run is the one from here
+whole : (z : tie.At-loop Inv-loop μ-loop)
+    → let fresh = z .before .before .before .args .fresh in verdictFrom fresh (traceFrom fresh recordWidth (recordsOf (runAt z))) ≡ fromHere (here z) (runAt z)
 whole z =
-    let run = z .before .before .before .args .run .now in
     let fresh = z .before .before .before .args .fresh in
-    here-begun fresh run
-    ∙ ap (λ (p : Progress). fromHere (soFar p fresh) run) (sym (z .before .begun .ensures))
+    here-begun fresh (runAt z)
+    ∙ ap (λ (p : Progress). fromHere (soFar p fresh) (runAt z)) (sym (z .before .begun .ensures))
     ∙ z .loop .inv .4
 
-begun-requires : tie.Need-begun-requires Inv-loop2 μ-loop2 Inv-loop μ-loop
+-- the part of the run that the readers take is that record, and has six bytes
+part : (z : tie.At-loop Inv-loop μ-loop) → take (here z .at + recordWidth - here z .at) (drop (here z .at) (runAt z)) ≡ nextAt z
+part z = ap (λ (k : ℕ). take k (drop (here z .at) (runAt z))) (add-sub-cancel-left (here z .at) recordWidth)
+
+six : (z : tie.Else2 Inv-loop μ-loop)
+    → let l = z .before .before .before in length (take (here l .at + recordWidth - here l .at) (drop (here l .at) (runAt l))) ≡ recordWidth
+six z =
+    let l = z .before .before .before in
+    ap length (part l) ∙ length-take-le recordWidth (drop (here l .at) (runAt l)) (rw length-drop (omega arith))
+
+begun-requires : tie.Need-begun-requires Inv-loop μ-loop
 begun-requires c κs = search needs
 
-loop-holds : tie.Need-loop-holds Inv-loop2 μ-loop2 Inv-loop μ-loop
+loop-holds : tie.Need-loop-holds Inv-loop μ-loop
 loop-holds c =
     let e = c .begun .ensures in
     let at : c .begun .result .at ≡ recordWidth = ap (λ (p : Progress). p .at) e in
     let count : c .begun .result .accepted ≡ 0 = ap (λ (p : Progress). p .accepted) e in
     (omega arith, omega arith, search needs, search needs, refl)
 
-sub-if2 : tie.Need-sub-if2 Inv-loop2 μ-loop2 Inv-loop μ-loop
+sub-if2 : tie.Need-sub-if2 Inv-loop μ-loop
 sub-if2 c = search needs
 
-verdict-requires : tie.Need-verdict-requires Inv-loop2 μ-loop2 Inv-loop μ-loop
+verdict-requires : tie.Need-verdict-requires Inv-loop μ-loop
 verdict-requires c κs = search needs
 
-returns : tie.Need-returns Inv-loop2 μ-loop2 Inv-loop μ-loop
+returns : tie.Need-returns Inv-loop μ-loop
 returns c =
     let z = c .before .before .before .before in
     let v = here z in
-    let run = z .before .before .before .args .run .now in
-    let e : actOn (v .state) (recordHere v run) .refusal ≡ tooShort =
-    ap (λ (o : Outcome). o .refusal) (unread (v .state) (recordHere v run) 20 (record-short actionMark (recordHere v run) (rw (length-take, length-drop) (omega arith)))) in
+    let e : actOn (v .state) (nextAt z) .refusal ≡ tooShort =
+    ap (λ (o : Outcome). o .refusal) (unread (v .state) (nextAt z) 20 (record-short actionMark (nextAt z) (rw (length-take, length-drop) (omega arith)))) in
     c .verdict .ensures
     ∙ ap (refusedBy v) (sym e)
-    ∙ here-refused v run (c .before .before .if1 .taken) (λ q. let w : tooShort ≡ accepted = sym e ∙ q in omega arith)
+    ∙ here-refused v (runAt z) (c .before .before .if1 .taken) (λ q. let w : tooShort ≡ accepted = sym e ∙ q in omega arith)
     ∙ sym (whole z)
 
-add-act-on : tie.Need-add-act-on Inv-loop2 μ-loop2 Inv-loop μ-loop
-add-act-on c = omega arith
+add-refusal-on : tie.Need-add-refusal-on Inv-loop μ-loop
+add-refusal-on c = omega arith
 
-sub-act-on : tie.Need-sub-act-on Inv-loop2 μ-loop2 Inv-loop μ-loop
-sub-act-on c = omega arith
+sub-refusal-on : tie.Need-sub-refusal-on Inv-loop μ-loop
+sub-refusal-on c = omega arith
 
-part-act-on-start : tie.Need-part-act-on-start Inv-loop2 μ-loop2 Inv-loop μ-loop
-part-act-on-start c = omega arith
+part-refusal-on-start : tie.Need-part-refusal-on-start Inv-loop μ-loop
+part-refusal-on-start c = omega arith
 
-part-act-on-end : tie.Need-part-act-on-end Inv-loop2 μ-loop2 Inv-loop μ-loop
-part-act-on-end c = omega arith
+part-refusal-on-end : tie.Need-part-refusal-on-end Inv-loop μ-loop
+part-refusal-on-end c = omega arith
 
-act-on-requires : tie.Need-act-on-requires Inv-loop2 μ-loop2 Inv-loop μ-loop
-act-on-requires c κs =
-    let v = here (c .before .before .before .before) in
-    let run = c .before .before .before .before .before .before .before .args .run .now in (
-      search needs,
-      (
-        search needs,
-        ap (λ (k : ℕ). length (take k (drop (v .at) run))) (add-sub-cancel-left (v .at) recordWidth)
-            ∙ length-take-le recordWidth (drop (v .at) run) (rw length-drop (omega arith)),
-      ),
-    )
+refusal-on-requires : tie.Need-refusal-on-requires Inv-loop μ-loop
+refusal-on-requires c κs = (search needs, (search needs, six (c .before)))
 
--- the record is judged on its own part of the run
-judged : (z : tie.After-act-on Inv-loop2 μ-loop2 Inv-loop μ-loop)
-    → z .act-on .result ≡ actOn (z .before .before .before .before .before .loop .state) (recordHere (here (z .before .before .before .before .before)) (z .before .before .before .before .before .before .before .before .args .run .now))
-judged z =
-    let v = here (z .before .before .before .before .before) in
-    let run = z .before .before .before .before .before .before .before .before .args .run .now in
-    z .act-on .ensures ∙ ap (λ (k : ℕ). actOn (v .state) (take k (drop (v .at) run))) (add-sub-cancel-left (v .at) recordWidth)
+-- the number is that of the record
+number : (z : tie.After-refusal-on Inv-loop μ-loop)
+    → let l = z .before .before .before .before .before in z .refusal-on .result ≡ actOn (here l .state) (nextAt l) .refusal
+number z =
+    let l = z .before .before .before .before .before in
+    z .refusal-on .ensures ∙ ap (λ (b : List ℕ). actOn (here l .state) b .refusal) (part l)
 
--- the state that it hands back meets the rules and is tidy
-kept : (z : tie.After-act-on Inv-loop2 μ-loop2 Inv-loop μ-loop) → Kept (z .before .before .before .before .before .loop .state) (z .act-on .result .state)
-kept z =
-    let l = z .before .before .before .before .before .loop in
-    rw (judged z) (act-on-kept (l .state) (recordHere (here (z .before .before .before .before .before)) (z .before .before .before .before .before .before .before .before .args .run .now)) (l .inv .2) (l .inv .3))
-
-verdict-requires-2 : tie.Need-verdict-requires-2 Inv-loop2 μ-loop2 Inv-loop μ-loop
+verdict-requires-2 : tie.Need-verdict-requires-2 Inv-loop μ-loop
 verdict-requires-2 c κs = search needs
 
-returns-2 : tie.Need-returns-2 Inv-loop2 μ-loop2 Inv-loop μ-loop
+returns-2 : tie.Need-returns-2 Inv-loop μ-loop
 returns-2 c =
-    let z = c .before .before .before .before .before .before .before .before in
-    let v = here z in
-    let run = z .before .before .before .args .run .now in
-    let e = ap (λ (o : Outcome). o .refusal) (judged (c .before .before .before)) in
+    let z = c .before .before .before .before .before .before .before in
+    let e = number (c .before .before) in
     c .verdict2 .ensures
-    ∙ ap (refusedBy v) e
-    ∙ here-refused v run (c .before .before .before .before .before .before .if1 .taken) (λ q. c .before .if3 .taken (e ∙ q))
+    ∙ ap (refusedBy (here z)) e
+    ∙ here-refused (here z) (runAt z) (c .before .before .before .before .before .if1 .taken) (λ q. c .before .if3 .taken (e ∙ q))
     ∙ sym (whole z)
 
-after-requires : tie.Need-after-requires Inv-loop2 μ-loop2 Inv-loop μ-loop
-after-requires c κs = (kept (c .before .before .before) .rules, (omega arith, omega arith))
+add-state-after : tie.Need-add-state-after Inv-loop μ-loop
+add-state-after c = omega arith
 
-loop2-holds : tie.Need-loop2-holds Inv-loop2 μ-loop2 Inv-loop μ-loop
-loop2-holds c = (omega arith, raised-none (c .before .after .result) (presumingHw (c .before .before .before .before .before .act-on .result .state)))
+sub-state-after : tie.Need-sub-state-after Inv-loop μ-loop
+sub-state-after c = omega arith
 
--- all replicas are asked: it is the verdict after one action more
-one-more : (z : tie.After-loop2 Inv-loop2 μ-loop2 Inv-loop μ-loop)
-    → soFar (z .before .loop2 .progress) (z .before .before .before .before .before .before .before .act-on .result .state) ≡ after (here (z .before .before .before .before .before .before .before .before .before .before .before .before)) (z .before .before .before .before .before .before .before .act-on .result .state)
+part-state-after-start : tie.Need-part-state-after-start Inv-loop μ-loop
+part-state-after-start c = omega arith
+
+part-state-after-end : tie.Need-part-state-after-end Inv-loop μ-loop
+part-state-after-end c = omega arith
+
+state-after-requires : tie.Need-state-after-requires Inv-loop μ-loop
+state-after-requires c κs = (search needs, (search needs, (six (c .before .before .before .before), sym (c .before .before .refusal-on .ensures) ∙ c .before .if3 .left)))
+
+-- the state is the one that the record hands back; it meets the rules and is tidy
+handed : (z : tie.After-state-after Inv-loop μ-loop)
+    → let l = z .before .before .before .before .before .before .before .before in z .state-after .result ≡ actOn (here l .state) (nextAt l) .state
+handed z =
+    let l = z .before .before .before .before .before .before .before .before in
+    z .state-after .ensures ∙ ap (λ (b : List ℕ). actOn (here l .state) b .state) (part l)
+
+kept : (z : tie.After-state-after Inv-loop μ-loop)
+    → let l = z .before .before .before .before .before .before .before .before in Kept (here l .state) (z .state-after .result)
+kept z =
+    let l = z .before .before .before .before .before .before .before .before in
+    rw (handed z) (act-on-kept (here l .state) (nextAt l) (l .loop .inv .2) (l .loop .inv .3))
+
+after-requires : tie.Need-after-requires Inv-loop μ-loop
+after-requires c κs = (kept c .rules, (omega arith, omega arith))
+
+-- it is the verdict after one action more
+one-more : (z : tie.After-after Inv-loop μ-loop)
+    → let l = z .before .before .before .before .before .before .before .before .before in
+    let s = z .before .state-after .result in soFar (z .after .result) s ≡ after (here l) s
 one-more z =
-    let s = z .before .before .before .before .before .before .before .act-on .result .state in
-    let r = z .before .loop2 .r in
-    let count : r ≡ s .limits .«replica_count» = omega arith in
-    ap (λ (p : Progress). soFar p s) (z .before .loop2 .inv .1 ∙ ap (λ (p : Progress). raised p (greatestBelow r (presumingHw s))) (z .before .before .before .after .ensures))
-    ∙ raised-done (z .before .before .before .before .before .before .before .before .before .before .before .before .loop .progress) s (z .before .before .before .before .before .before .before .before .before .before .before .before .loop .state) r count
+    let l = z .before .before .before .before .before .before .before .before .before in
+    let s = z .before .state-after .result in
+    ap (λ (p : Progress). soFar p s) (z .after .ensures) ∙ counted-so-far (l .loop .progress) s (l .loop .state)
 
-loop-less : tie.Need-loop-less Inv-loop2 μ-loop2 Inv-loop μ-loop
+loop-less : tie.Need-loop-less Inv-loop μ-loop
 loop-less c =
     let at = ap (λ (v : Verdict). v .at) (one-more c) in
     omega (arith, at)
 
-loop-again : tie.Need-loop-again Inv-loop2 μ-loop2 Inv-loop μ-loop
+loop-again : tie.Need-loop-again Inv-loop μ-loop
 loop-again c =
-    let z = c .before .before .before .before .before .before .before in
-    let l = c .before .before .before .before .before .before .before .before .before .before .before .before .loop in
-    let run = c .before .before .before .before .before .before .before .before .before .before .before .before .before .before .before .args .run .now in
+    let z = c .before .before .before .before .before .before .before .before .before in
     let e = one-more c in
-    let at : c .before .loop2 .progress .at ≡ l .progress .at + recordWidth = ap (λ (v : Verdict). v .at) e in
-    let count : c .before .loop2 .progress .accepted ≡ l .progress .accepted + 1 = ap (λ (v : Verdict). v .accepted) e in (
+    let at : c .after .result .at ≡ here z .at + recordWidth = ap (λ (v : Verdict). v .at) e in
+    let count : c .after .result .accepted ≡ here z .accepted + 1 = ap (λ (v : Verdict). v .accepted) e in (
       omega arith,
       omega arith,
-      kept z .rules,
-      kept z .tidy,
-      l .inv .4
-          ∙ here-on (here (c .before .before .before .before .before .before .before .before .before .before .before .before)) run (omega arith) (sym (ap (λ (o : Outcome). o .refusal) (judged z)) ∙ c .before .before .before .before .before .if3 .left)
-          ∙ ap (λ (v : Verdict). fromHere v run) (sym (e ∙ ap (λ (o : Outcome). after (here (c .before .before .before .before .before .before .before .before .before .before .before .before)) (o .state)) (judged z))),
+      kept (c .before) .rules,
+      kept (c .before) .tidy,
+      z .loop .inv .4
+          ∙ here-on (here z) (runAt z) (omega arith) (sym (number (c .before .before .before .before)) ∙ c .before .before .before .if3 .left)
+          ∙ ap (λ (v : Verdict). fromHere v (runAt z)) (sym (e ∙ ap (after (here z)) (handed (c .before)))),
     )
 
-cast-p : tie.Need-cast-p Inv-loop2 μ-loop2 Inv-loop μ-loop
-cast-p c = search needs
-
-mul-p : tie.Need-mul-p Inv-loop2 μ-loop2 Inv-loop μ-loop
-mul-p c = search needs
-
-element-copy-out-p : tie.Need-element-copy-out-p Inv-loop2 μ-loop2 Inv-loop μ-loop
-element-copy-out-p c = replica-five (c .before .before .before .before .before .before .before .act-on .result .state) (kept (c .before .before .before .before .before .before .before) .rules) (c .before .loop2 .r) (c .loop2-test .taken)
-
-where-presuming-requires : tie.Need-where-presuming-requires Inv-loop2 μ-loop2 Inv-loop μ-loop
-where-presuming-requires c κs = search needs
-
-larger-requires : tie.Need-larger-requires Inv-loop2 μ-loop2 Inv-loop μ-loop
-larger-requires c κs = search needs
-
-add-r : tie.Need-add-r Inv-loop2 μ-loop2 Inv-loop μ-loop
-add-r c = search needs
-
-loop2-less : tie.Need-loop2-less Inv-loop2 μ-loop2 Inv-loop μ-loop
-loop2-less c = search needs
-
-loop2-again : tie.Need-loop2-again Inv-loop2 μ-loop2 Inv-loop μ-loop
-unfolding replicaPresumesLeadership
-loop2-again c =
-    let f = presumingHw (c .before .before .before .before .before .before .before .before .before .before .act-on .result .state) in
-    let l = c .before .before .before .before .loop2 in (
-      omega arith,
-      ap (λ (k : ℕ). progressOf (l .progress .accepted) (l .progress .at) (l .progress .weak) (l .progress .strong) k) (c .larger .ensures ∙ ap (max (l .progress .exposed)) (c .before .where-presuming .ensures))
-          ∙ ap (λ (p : Progress). raised p (f (l .r))) (l .inv .1)
-          ∙ raised-more (c .before .before .before .before .before .before .after .result) f (l .r),
-    )
-
-verdict-requires-3 : tie.Need-verdict-requires-3 Inv-loop2 μ-loop2 Inv-loop μ-loop
+verdict-requires-3 : tie.Need-verdict-requires-3 Inv-loop μ-loop
 verdict-requires-3 c κs = search needs
 
-returns-3 : tie.Need-returns-3 Inv-loop2 μ-loop2 Inv-loop μ-loop
+returns-3 : tie.Need-returns-3 Inv-loop μ-loop
 returns-3 c =
     let z = c .before .before .before in
-    let run = z .before .before .before .args .run .now in
-    c .verdict3 .ensures ∙ here-end (here z) run (omega arith) ∙ sym (whole z)
+    c .verdict3 .ensures ∙ here-end (here z) (runAt z) (omega arith) ∙ sym (whole z)
 
 pub judge-actions-spec : {M : Type 1} → statement M
 judge-actions-spec =
     tie.close
     (tie.spec
-    Inv-loop2
-    μ-loop2
     Inv-loop
     μ-loop
     begun-requires
@@ -225,24 +198,20 @@ judge-actions-spec =
     sub-if2
     verdict-requires
     returns
-    add-act-on
-    sub-act-on
-    part-act-on-start
-    part-act-on-end
-    act-on-requires
+    add-refusal-on
+    sub-refusal-on
+    part-refusal-on-start
+    part-refusal-on-end
+    refusal-on-requires
     verdict-requires-2
     returns-2
+    add-state-after
+    sub-state-after
+    part-state-after-start
+    part-state-after-end
+    state-after-requires
     after-requires
-    loop2-holds
     loop-less
     loop-again
-    cast-p
-    mul-p
-    element-copy-out-p
-    where-presuming-requires
-    larger-requires
-    add-r
-    loop2-less
-    loop2-again
     verdict-requires-3
     returns-3)

@@ -2,7 +2,7 @@ use mathlib.Core.Path.{_≡_, _∙_, ap, refl, sym}
 use borrow.Author.Needs.{needs}
 use Rattle.parts.specs.Refusal.{accepted}
 use Rattle.cluster.specs.declared.Kind.the-variants.{BecomeLeader, ControllerElectLeader, Unknown, BecomeFollower, ControllerShrinkIsr, FollowerReplicate, LeaderExpandIsr, LeaderIncHighWatermark, LeaderShrinkIsr, LeaderWrite}
-use Rattle.cluster.specs.Accepted.{Operands, operands-of}
+use Rattle.cluster.specs.Accepted.{Operands, action-accepted, operands-of}
 use Rattle.cluster.specs.Act.{kindOf, effect, tableEffect, tableRefusal, uses}
 use Rattle.cluster.specs.declared.Kind.{Kind}
 use Rattle.cluster.proofs.State.effect.Statement.{statement}
@@ -13,13 +13,16 @@ kind-is : (z : tie.After-of) (k : Kind) → z .of .result ≡ k → kindOf (z .b
 kind-is z k e = sym (z .of .ensures) ∙ e
 
 operands : (z : tie.After-of) (k : Kind) → z .of .result ≡ k → let x = z .before .args in Operands (x .self .limits) k (x .action .a) (x .action .b)
-operands z k e = let x = z .before .args in operands-of (x .self .limits) (x .action) (z .before .pre .1 .0) k (kind-is z k e)
+operands z k e =
+    let x = z .before .args in
+    operands-of (x .self .limits) (x .action) (action-accepted (x .self) (x .action) (z .before .pre .1) .0) k (kind-is z k e)
 
 table : (z : tie.After-of) (k : Kind) → z .of .result ≡ k
     → let x = z .before .args in tableRefusal k (x .self) (x .action .a) (x .action .b) (x .action .e) ≡ accepted
 table z k e =
     let x = z .before .args in
-    ap (λ (j : Kind). tableRefusal j (x .self) (x .action .a) (x .action .b) (x .action .e)) (sym (kind-is z k e)) ∙ z .before .pre .1 .1
+    ap (λ (j : Kind). tableRefusal j (x .self) (x .action .a) (x .action .b) (x .action .e)) (sym (kind-is z k e))
+    ∙ action-accepted (x .self) (x .action) (z .before .pre .1) .1
 
 of-requires : tie.Need-of-requires
 of-requires c κs = search needs

@@ -1,26 +1,27 @@
 use Prim.Native.Nat.{ℕ}
-use mathlib.Core.Path.{_∙_, ap, sym}
+use mathlib.Core.Path.{_≡_, _∙_, ap, sym}
 use Rattle.parts.specs.Refusal.{accepted}
 use Rattle.cluster.specs.ActLaws.{answer-other, answer-zero}
-use Rattle.cluster.specs.Accepted.{action-accepted}
 use Rattle.cluster.specs.Fresh.{answer}
-use Rattle.cluster.specs.Act.{answerBy, effect, step}
+use Rattle.cluster.specs.Act.{actionRefusal, answerBy, effect, step}
 use Rattle.cluster.proofs.State.step.Statement.{statement}
 use Rattle.cluster.proofs.State.step.Tie as tie
+
+-- the action is accepted where its number is 0
+not-refused : (z : tie.Then1) → let x = z .before .before .args in actionRefusal (x .self) (x .action) ≡ accepted
+not-refused z = sym (z .before .action-refusal .ensures) ∙ z .if1 .taken
 
 action-refusal-requires : tie.Need-action-refusal-requires
 action-refusal-requires c κs = c .pre .0
 
 effect-requires : tie.Need-effect-requires
-effect-requires c κs =
-    let x = c .before .before .args in
-    (c .before .before .pre .0, action-accepted (x .self) (x .action) (sym (c .before .action-refusal .ensures) ∙ c .if1 .taken))
+effect-requires c κs = (c .before .before .pre .0, not-refused c)
 
 returns : tie.Need-returns
 unfolding step
 returns c =
     ap (answer accepted) (c .effect .ensures)
-    ∙ answer-zero _ (c .before .before .before .args .self) _ (sym (c .before .before .action-refusal .ensures) ∙ c .before .if1 .taken)
+    ∙ answer-zero _ (c .before .before .before .args .self) _ (not-refused (c .before))
 
 returns-2 : tie.Need-returns-2
 unfolding step

@@ -1,5 +1,5 @@
-use Prim.Native.Nat.{ℕ, _+_}
-use mathlib.Core.Path.{ap₂}
+use Prim.Native.Nat.{ℕ, _+_, max}
+use mathlib.Core.Path.{ap, ap₂, _∙_}
 use borrow.Author.Needs.{needs}
 use Rattle.runs.specs.Run.{recordWidth}
 use Rattle.runs.specs.Judging.{progressOf}
@@ -18,10 +18,19 @@ failed-at-requires-2 c κs = search needs
 add-t7 : tie.Need-add-t7
 add-t7 c = search needs
 
+exposed-requires : tie.Need-exposed-requires
+exposed-requires c κs = search needs
+
+larger-requires : tie.Need-larger-requires
+larger-requires c κs = search needs
+
 returns : tie.Need-returns
 returns c =
-    let p = c .before .before .before .before .args .self in
-    ap₂ (λ (weak strong : ℕ). progressOf (p .accepted + 1) (p .at + recordWidth) weak strong (p .exposed)) (c .before .before .failed-at .ensures) (c .before .failed-at2 .ensures)
+    let p = c .before .before .before .before .before .before .args .self in
+    let most = c .larger .ensures ∙ ap (max (p .exposed)) (c .before .exposed .ensures) in
+    ap₂ (λ (weak strong : ℕ). progressOf (p .accepted + 1) (p .at + recordWidth) weak strong (c .larger .result))
+    (c .before .before .before .before .failed-at .ensures) (c .before .before .before .failed-at2 .ensures)
+    ∙ ap (progressOf (p .accepted + 1) (p .at + recordWidth) _ _) most
 
 pub after-spec : {M : Type 1} → statement M
-after-spec = tie.close (tie.spec add-count failed-at-requires failed-at-requires-2 add-t7 returns)
+after-spec = tie.close (tie.spec add-count failed-at-requires failed-at-requires-2 add-t7 exposed-requires larger-requires returns)
