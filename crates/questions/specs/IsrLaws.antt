@@ -19,9 +19,9 @@ use Rattle.questions.specs.declared.Property.the-variants.{WeakIsr, Stro
 use Rattle.questions.specs.Isr.{isrAsked, isAsked, offsetsAsked, differAt}
 
 -- the ISR that m is a member of, by r's own and the quorum's
-unfoldable pub isrOf : Property → ℕ → ℕ → ℕ
-isrOf WeakIsr own quorum = own
-isrOf StrongIsr own quorum = quorum
+unfoldable pub isrByProperty : Property → ℕ → ℕ → ℕ
+isrByProperty WeakIsr own quorum = own
+isrByProperty StrongIsr own quorum = quorum
 
 -- a number below a bound that is 0 where a test fails: the test passed
 pub below-cond : (b : Bool) (n m : ℕ) → m < cond b n 0 → (b ≡ true) × (m < n)
@@ -42,17 +42,17 @@ first-nowhere (suc n) f h = rw (first-nowhere n f (λ i l. h i (omega arith))) (
 module _ (property : Property) (s : State) (r : ℕ) where
   -- how many offsets of r and m the code compares where r presumes
   abbrev pub compared : ℕ → ℕ
-  compared m = cond (eqb m r) 0 (cond (member (isrOf property (replicaAt s r .isr) (s .quorum .isr)) m) (replicaAt s r .hw) 0)
+  compared m = cond (eqb m r) 0 (cond (member (isrByProperty property (replicaAt s r .isr) (s .quorum .isr)) m) (replicaAt s r .hw) 0)
 
   -- each of them is below r's hw
   pub compared-below : (m x : ℕ) → x < compared m → x < replicaAt s r .hw
-  compared-below m x = below-other (eqb m r) (member (isrOf property (replicaAt s r .isr) (s .quorum .isr)) m) (replicaAt s r .hw) x
+  compared-below m x = below-other (eqb m r) (member (isrByProperty property (replicaAt s r .isr) (s .quorum .isr)) m) (replicaAt s r .hw) x
 
-  asked-of : isrAsked property s r ≡ isrOf property (replicaAt s r .isr) (s .quorum .isr)
-  unfolding isrAsked isrOf
+  asked-of : isrAsked property s r ≡ isrByProperty property (replicaAt s r .isr) (s .quorum .isr)
+  unfolding isrAsked isrByProperty
   asked-of = go property
     where
-      go : (p : Property) → isrAsked p s r ≡ isrOf p (replicaAt s r .isr) (s .quorum .isr)
+      go : (p : Property) → isrAsked p s r ≡ isrByProperty p (replicaAt s r .isr) (s .quorum .isr)
       go WeakIsr = refl
       go StrongIsr = refl
 

@@ -5,13 +5,13 @@ ghost use mathlib.Core.Bool.{cond};
 ghost use lib.Dec.{eqb};
 ghost use Rattle.parts.specs.Isr.{member};
 ghost use Rattle.parts.specs.Leader.{names};
-ghost use Rattle.questions.specs.IsrLaws.{isrOf};
+ghost use Rattle.questions.specs.IsrLaws.{isrByProperty};
 use crate::Property;
 use replica::Replica;
 
 // The ISR whose members are asked about: the leader's own, or the quorum's.
 pub(crate) fn isr_asked(property: Property, own: u8, quorum: u8) -> u8
-    ensures { λ isr. ⌜ isr ≡ isrOf property own quorum ⌝ }
+    ensures { λ isr. ⌜ isr ≡ isrByProperty property own quorum ⌝ }
 {
     match property {
         Property::WeakIsr => own,
@@ -20,7 +20,7 @@ pub(crate) fn isr_asked(property: Property, own: u8, quorum: u8) -> u8
 }
 
 // A number where the replica named r presumes leadership: where its own leader is r; else 0.
-pub fn where_presuming(p: Replica, r: u8, number: u8) -> u8
+pub(crate) fn where_presuming(p: Replica, r: u8, number: u8) -> u8
     ensures { λ n. ⌜ n ≡ cond (names (p .leader) r) number 0 ⌝ }
 {
     let leader = p.leader;

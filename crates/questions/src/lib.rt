@@ -1,5 +1,5 @@
 // Three questions about a state: weak ISR, strong ISR, and what action it offers; and what it exposes.
-pub mod isr;
+mod isr;
 mod search;
 
 ghost use mathlib.Core.Path.{_≡_};

@@ -4,7 +4,7 @@ use mathlib.Core.Path.{_≡_, refl, sym, _∙_, ap, subst}
 use mathlib.Core.Bool.{Bool, true, false, not}
 use mathlib.Core.List.{List, [], _∷_}
 use native.Mathlib.Omega.{arith}
-use native.Mathlib.Decide.{decLt}
+use native.Mathlib.Decide.{ℕ-discrete, decLt}
 use lib.Dec.{ltb}
 use lib.ListN.{length, getD}
 use mir.Val.{boolByte}
@@ -15,6 +15,8 @@ use Rattle.logic.specs.Table.{table, tableFrom, ext-table, cond-true, cond-fals
 use Rattle.parts.specs.Refusal.{accepted, brokenState, bufferShort, notRenaming}
 use Rattle.parts.specs.Isr.{bit}
 use Rattle.cluster.specs.declared.State.{State}
+use Rattle.cluster.specs.declared.Outcome.{Outcome}
+use Rattle.cluster.specs.State.{zeroState}
 use Rattle.cluster.specs.Rules.{rules, stateRefusal}
 use Rattle.cluster.specs.RuleLaws.{refusal-broken}
 use Rattle.cluster.specs.Fresh.{answer}
@@ -22,10 +24,13 @@ use Rattle.renamings.specs.Rename.{rename}
 use Rattle.images.specs.Image.{image, writeImage, bufferAfter}
 use Rattle.images.specs.ImageLaws.{image-most}
 use Rattle.images.specs.WriteLaws.{writes-broken, writes-short, writes-all}
+use Rattle.images.specs.Read.{parsed, readImage}
+use Rattle.images.specs.Layout.{bodyOf, layoutRefusal}
+use Rattle.images.specs.ReadLaws.{read-refused, read-met, read-unmet}
 use Rattle.runs.specs.declared.Verdict.{Verdict}
-use Rattle.flat.specs.Flat.{flatWidth, stateOfFlat}
+use Rattle.flat.specs.Flat.{flatWidth, flat, stateOfFlat}
 use Rattle.flat.specs.FlatLaws.{flat-width}
-use Rattle.replay.specs.Interface.{Reply, refuses, gives, number, outAfter, lengthWritten, Replies, replyBy, imageReply, renameBy, widthRefusal, onState, numberAndLength, verdictWidth, numberBytes, verdictBytes}
+use Rattle.replay.specs.Interface.{Reply, refuses, gives, number, outAfter, lengthWritten, Replies, replyBy, stateReply, imageReply, renameBy, widthRefusal, onState, numberAndLength, verdictWidth, numberBytes, verdictBytes}
 
 -- ---- replies
 -- the answer's own number refuses
@@ -53,6 +58,12 @@ module _ (n : ℕ) (bytes out : List ℕ) (h : n ≡ accepted) where
   replies-given after end w k =
       rw (← reply-accepted n (gives bytes) h)
       (sym (cond-false _ _ _ (le-ltb (length out) (length bytes) k)), stored-front w k ∙ sym (cond-false _ _ _ (le-ltb (length out) (length bytes) k)))
+
+-- a number that refuses says all: the state beside it does not count
+pub reply-refused : (n : ℕ) (s t : State) → (n ≡ accepted → ⊥) → stateReply (answer n s) ≡ stateReply (answer n t)
+unfolding stateReply replyBy
+reply-refused zero s t h = absurd (h refl)
+reply-refused (suc n) s t h = refl
 
 -- ---- a state that comes as bytes
 -- it has 226
@@ -163,6 +174,26 @@ image-replies s out = go (rules s) refl
                 after = rw (← (w .1), h, t) refl;
               }
         ]
+
+-- an image whose parts are not all there refuses
+pub read-refuses : (bytes out : List ℕ) (n : ℕ) → n ≡ layoutRefusal bytes → (n ≡ accepted → ⊥) → Replies (stateReply (readImage bytes)) out n out
+unfolding stateReply
+read-refuses bytes out n e h =
+    subst (λ (o : Outcome). Replies (stateReply o) out n out) (read-refused bytes n e h) (replies-refused n (gives (flat zeroState)) out h)
+
+-- one whose parts are all there gives its state, or refuses by the state's own number
+read-gives : (bytes : List ℕ) (s : State) → layoutRefusal bytes ≡ accepted → bodyOf bytes ≡ parsed s []
+    → stateReply (answer (stateRefusal s) s) ≡ stateReply (readImage bytes)
+read-gives bytes s laid is =
+    elim (ℕ-discrete (stateRefusal s) accepted) [
+      | yes q ↦ ap (λ (n : ℕ). stateReply (answer n s)) q ∙ ap stateReply (read-met bytes s laid is q)
+      | no q ↦ reply-refused (stateRefusal s) s zeroState q ∙ ap stateReply (read-unmet bytes s laid is q)
+    ]
+
+pub read-replies : (bytes : List ℕ) (s : State) (out : List ℕ) (k n : ℕ) (after : List ℕ) → layoutRefusal bytes ≡ accepted → bodyOf bytes ≡ parsed s []
+    → k ≡ stateRefusal s → Replies (stateReply (answer k s)) out n after → Replies (stateReply (readImage bytes)) out n after
+read-replies bytes s out k n after laid is e r =
+    subst (λ (m : Reply). Replies m out n after) (ap (λ (i : ℕ). stateReply (answer i s)) e ∙ read-gives bytes s laid is) r
 
 -- ---- verdicts
 pub verdict-width : (v : Verdict) → length (verdictBytes v) ≡ verdictWidth

@@ -9,6 +9,7 @@ ghost use mathlib.Core.Path.{_≡_};
 ghost use Rattle.replay.specs.Interface.{Replies, numberAndLength, outAfter, replayFresh, replayAct, replayWeak, replayStrong, replayOffer, replayWriteImage, replayReadImage, replayRename, replayRepresentative, replayJudge};
 use cluster::Action;
 use cluster::Limits;
+use cluster::Outcome;
 use cluster::State;
 use flat::read::state_of;
 use parts::refusal::ACCEPTED;
@@ -94,12 +95,21 @@ pub extern "C" fn replay_write_image(state: &[u8], out: &mut [u8]) -> u32
     (written.refusal as u32) + 256 * (written.length as u32)
 }
 
-// The state of an image.
+// The state of an image. It is not made where a part of the image is missing.
 #[no_mangle]
 pub extern "C" fn replay_read_image(bytes: &[u8], out: &mut [u8]) -> u8
     ensures { λ n. ⌜ Replies (replayReadImage (now (bytes .entry))) (now (out .entry)) n (now (out .exit)) ⌝ }
 {
-    give::give_state(images::read_image(bytes), &mut out[..])
+    let refusal = images::read::layout_refusal(bytes);
+    if refusal != ACCEPTED {
+        return refusal;
+    }
+    let s = images::read::state_of(bytes);
+    let outcome = Outcome {
+        refusal: s.state_refusal(),
+        state: s,
+    };
+    give::give_state(outcome, &mut out[..])
 }
 
 // The state under a renaming.

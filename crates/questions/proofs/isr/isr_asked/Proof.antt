@@ -1,5 +1,5 @@
 use borrow.Author.Needs.{needs}
-use Rattle.questions.specs.IsrLaws.{isrOf}
+use Rattle.questions.specs.IsrLaws.{isrByProperty}
 use Rattle.questions.proofs.isr.isr_asked.Statement.{statement}
 use Rattle.questions.proofs.isr.isr_asked.Tie as tie
 
@@ -10,11 +10,11 @@ enum-told-2 : tie.Need-enum-told-2
 enum-told-2 c = search needs
 
 returns : tie.Need-returns
-unfolding isrOf
+unfolding isrByProperty
 returns c = search needs
 
 returns-2 : tie.Need-returns-2
-unfolding isrOf
+unfolding isrByProperty
 returns-2 c = search needs
 
 pub isr-asked-spec : {M : Type 1} → statement M
