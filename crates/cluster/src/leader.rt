@@ -6,7 +6,7 @@ ghost use mathlib.Core.Bool.{true};
 ghost use Prim.Native.Nat.{_<_};
 ghost use Rattle.logic.specs.Tests.{allBelow};
 ghost use Rattle.parts.specs.Refusal.{accepted};
-ghost use Rattle.cluster.specs.State.{replicaCount};
+ghost use Rattle.cluster.specs.State.{replicaCount, replicaAt};
 ghost use Rattle.cluster.specs.Rules.{rules};
 ghost use Rattle.cluster.specs.Actions.{leaderWriteRefusal, leaderWrite, quorumUpdateLeaderAndIsr, leaderShrinkIsrRefusal, leaderShrinkIsr, leaderExpandIsrRefusal, leaderExpandIsr, memberHasHw, leaderIncHighWatermarkRefusal, leaderIncHighWatermark};
 use crate::State;
@@ -22,6 +22,7 @@ use parts::refusal::NOT_PRESUMING;
 use parts::refusal::NOT_TRUE_LEADER;
 use parts::refusal::SAME_REPLICA;
 use replica::Record;
+use replica::Replica;
 
 impl State {
     // Kind 4: the refusal of a write to a.
@@ -61,15 +62,17 @@ impl State {
             .with_next_record_id(id + 1)
     }
 
-    // The state with another ISR in a leader and in the quorum, and no request of it. Both are put into one copy of the state.
-    fn quorum_update_leader_and_isr(self, leader: u8, new_isr: u8) -> State
+    // The state with another ISR in a leader and in the quorum, and no request of it. The caller shows that the replica handed over
+    // is that leader: it has read it, and to read it here again would copy the state once more.
+    fn quorum_update_leader_and_isr(self, leader: u8, p: Replica, new_isr: u8) -> State
         requires { ⌜ leader < 5 ⌝ }
+        requires { ⌜ p ≡ replicaAt self leader ⌝ }
         ensures { λ r. ⌜ r ≡ quorumUpdateLeaderAndIsr self leader «new_isr» ⌝ }
     {
         let mut t = self;
-        let mut p = self.replicas[leader as usize];
-        p.isr = new_isr;
-        t.replicas[leader as usize] = p;
+        let mut changed = p;
+        changed.isr = new_isr;
+        t.replicas[leader as usize] = changed;
         let mut q = self.quorum;
         q.isr = new_isr;
         t.quorum = q;
@@ -107,7 +110,7 @@ impl State {
     {
         let p = self.replica_at(a);
         let isr = parts::without_member(p.isr, b);
-        self.quorum_update_leader_and_isr(a, isr)
+        self.quorum_update_leader_and_isr(a, p, isr)
     }
 
     // Kind 6: the refusal of a's taking b into its ISR.
@@ -139,7 +142,7 @@ impl State {
     {
         let p = self.replica_at(a);
         let isr = parts::including_member(p.isr, b);
-        self.quorum_update_leader_and_isr(a, isr)
+        self.quorum_update_leader_and_isr(a, p, isr)
     }
 
     // Whether m, if it is in a's ISR, has a as leader and has the offset of a's high watermark.

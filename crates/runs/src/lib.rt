@@ -73,7 +73,8 @@ fn judge_actions(run: &[u8], fresh: State) -> Verdict
         if refusal != ACCEPTED {
             return progress.verdict(refusal, state);
         }
-        state = record::state_after(state, &run[at..at + RECORD_WIDTH]);
+        let action = record::action_of(&run[at..at + RECORD_WIDTH]);
+        state = state.effect(action);
         progress = progress.after(state);
     }
     progress.verdict(ACCEPTED, state)

@@ -2,7 +2,6 @@
 ghost use mathlib.Core.Path.{_≡_};
 ghost use mathlib.Core.Bool.{true};
 ghost use lib.ListN.{length};
-ghost use Rattle.parts.specs.Refusal.{accepted};
 ghost use Rattle.cluster.specs.State.{tidy};
 ghost use Rattle.cluster.specs.Rules.{rules};
 ghost use Rattle.runs.specs.Run.{recordWidth, configure, actionIn, actOn};
@@ -33,7 +32,7 @@ pub(crate) fn configure(bytes: &[u8]) -> Outcome
 }
 
 // The action of a record.
-fn action_of(bytes: &[u8]) -> Action
+pub(crate) fn action_of(bytes: &[u8]) -> Action
     requires { ⌜ length (now bytes) ≡ recordWidth ⌝ }
     ensures { λ r. ⌜ r ≡ actionIn (now (bytes .entry)) ⌝ }
 {
@@ -57,15 +56,4 @@ pub(crate) fn refusal_on(s: State, bytes: &[u8]) -> u8
         return WRONG_MARK;
     }
     s.action_refusal(action_of(bytes))
-}
-
-// The state that an action hands back. The caller shows of the state what `refusal_on` asks, and that the action is accepted.
-pub(crate) fn state_after(s: State, bytes: &[u8]) -> State
-    requires { ⌜ rules s ≡ true ⌝ }
-    requires { ⌜ tidy s ≡ s ⌝ }
-    requires { ⌜ length (now bytes) ≡ recordWidth ⌝ }
-    requires { ⌜ actOn s (now bytes) .refusal ≡ accepted ⌝ }
-    ensures { λ r. ⌜ r ≡ actOn s (now (bytes .entry)) .state ⌝ }
-{
-    s.effect(action_of(bytes))
 }

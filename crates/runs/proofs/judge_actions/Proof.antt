@@ -11,11 +11,12 @@ use Rattle.parts.specs.Refusal.{accepted, tooShort}
 use Rattle.cluster.specs.declared.Outcome.{Outcome}
 use Rattle.cluster.specs.State.{tidy}
 use Rattle.cluster.specs.Rules.{rules}
+use Rattle.cluster.specs.Act.{actionRefusal, effect}
 use Rattle.actions.specs.Kept.{Kept}
 use Rattle.runs.specs.declared.judging.Progress.{Progress}
 use Rattle.runs.specs.declared.Verdict.{Verdict}
-use Rattle.runs.specs.Run.{recordWidth, actionMark, recordsOf, traceFrom, verdictFrom, actOn}
-use Rattle.runs.specs.RecordLaws.{record-short, unread, act-on-kept}
+use Rattle.runs.specs.Run.{recordWidth, actionMark, actionIn, recordsOf, traceFrom, verdictFrom, actOn}
+use Rattle.runs.specs.RecordLaws.{record-short, unread, accepted-number, accepted-state, act-on-kept}
 use Rattle.runs.specs.Judging.{refusedBy, after, soFar, counted-so-far, fromHere, recordHere, here-begun, here-end, here-refused, here-on}
 use Rattle.runs.proofs.judge_actions.Statement.{statement}
 use Rattle.runs.proofs.judge_actions.Tie as tie
@@ -119,44 +120,55 @@ returns-2 c =
     ∙ here-refused (here z) (runAt z) (c .before .before .before .before .before .if1 .taken) (λ q. c .before .if3 .taken (e ∙ q))
     ∙ sym (whole z)
 
-add-state-after : tie.Need-add-state-after Inv-loop μ-loop
-add-state-after c = omega arith
+add-action-of : tie.Need-add-action-of Inv-loop μ-loop
+add-action-of c = omega arith
 
-sub-state-after : tie.Need-sub-state-after Inv-loop μ-loop
-sub-state-after c = omega arith
+sub-action-of : tie.Need-sub-action-of Inv-loop μ-loop
+sub-action-of c = omega arith
 
-part-state-after-start : tie.Need-part-state-after-start Inv-loop μ-loop
-part-state-after-start c = omega arith
+part-action-of-start : tie.Need-part-action-of-start Inv-loop μ-loop
+part-action-of-start c = omega arith
 
-part-state-after-end : tie.Need-part-state-after-end Inv-loop μ-loop
-part-state-after-end c = omega arith
+part-action-of-end : tie.Need-part-action-of-end Inv-loop μ-loop
+part-action-of-end c = omega arith
 
-state-after-requires : tie.Need-state-after-requires Inv-loop μ-loop
-state-after-requires c κs = (search needs, (search needs, (six (c .before .before .before .before), sym (c .before .before .refusal-on .ensures) ∙ c .before .if3 .left)))
+action-of-requires : tie.Need-action-of-requires Inv-loop μ-loop
+action-of-requires c κs = six (c .before .before .before .before)
+
+-- the action is that of the record, which is accepted
+action : (z : tie.After-action-of Inv-loop μ-loop) → let l = z .before .before .before .before .before .before .before .before in z .action-of .result ≡ actionIn (nextAt l)
+action z = z .action-of .ensures ∙ ap actionIn (part (z .before .before .before .before .before .before .before .before))
+
+ok : (z : tie.After-action-of Inv-loop μ-loop) → let l = z .before .before .before .before .before .before .before .before in actOn (here l .state) (nextAt l) .refusal ≡ accepted
+ok z = sym (number (z .before .before .before)) ∙ z .before .before .if3 .left
+
+effect-requires : tie.Need-effect-requires Inv-loop μ-loop
+effect-requires c κs =
+    let l = c .before .before .before .before .before .before .before .before in (
+      l .loop .inv .2,
+      ap (actionRefusal (here l .state)) (action c) ∙ accepted-number (here l .state) (nextAt l) (l .loop .inv .2) (l .loop .inv .3) (ok c),
+    )
 
 -- the state is the one that the record hands back; it meets the rules and is tidy
-handed : (z : tie.After-state-after Inv-loop μ-loop)
-    → let l = z .before .before .before .before .before .before .before .before in z .state-after .result ≡ actOn (here l .state) (nextAt l) .state
+handed : (z : tie.After-effect Inv-loop μ-loop) → let l = z .before .before .before .before .before .before .before .before .before in z .effect .result ≡ actOn (here l .state) (nextAt l) .state
 handed z =
-    let l = z .before .before .before .before .before .before .before .before in
-    z .state-after .ensures ∙ ap (λ (b : List ℕ). actOn (here l .state) b .state) (part l)
+    let l = z .before .before .before .before .before .before .before .before .before in
+    z .effect .ensures ∙ ap (effect (here l .state)) (action (z .before))
+    ∙ accepted-state (here l .state) (nextAt l) (l .loop .inv .2) (l .loop .inv .3) (ok (z .before))
 
-kept : (z : tie.After-state-after Inv-loop μ-loop)
-    → let l = z .before .before .before .before .before .before .before .before in Kept (here l .state) (z .state-after .result)
+kept : (z : tie.After-effect Inv-loop μ-loop) → let l = z .before .before .before .before .before .before .before .before .before in Kept (here l .state) (z .effect .result)
 kept z =
-    let l = z .before .before .before .before .before .before .before .before in
+    let l = z .before .before .before .before .before .before .before .before .before in
     rw (handed z) (act-on-kept (here l .state) (nextAt l) (l .loop .inv .2) (l .loop .inv .3))
 
 after-requires : tie.Need-after-requires Inv-loop μ-loop
 after-requires c κs = (kept c .rules, (omega arith, omega arith))
 
 -- it is the verdict after one action more
-one-more : (z : tie.After-after Inv-loop μ-loop)
-    → let l = z .before .before .before .before .before .before .before .before .before in
-    let s = z .before .state-after .result in soFar (z .after .result) s ≡ after (here l) s
+one-more : (z : tie.After-after Inv-loop μ-loop) → let l = z .before .before .before .before .before .before .before .before .before .before in let s = z .before .effect .result in soFar (z .after .result) s ≡ after (here l) s
 one-more z =
-    let l = z .before .before .before .before .before .before .before .before .before in
-    let s = z .before .state-after .result in
+    let l = z .before .before .before .before .before .before .before .before .before .before in
+    let s = z .before .effect .result in
     ap (λ (p : Progress). soFar p s) (z .after .ensures) ∙ counted-so-far (l .loop .progress) s (l .loop .state)
 
 loop-less : tie.Need-loop-less Inv-loop μ-loop
@@ -166,7 +178,7 @@ loop-less c =
 
 loop-again : tie.Need-loop-again Inv-loop μ-loop
 loop-again c =
-    let z = c .before .before .before .before .before .before .before .before .before in
+    let z = c .before .before .before .before .before .before .before .before .before .before in
     let e = one-more c in
     let at : c .after .result .at ≡ here z .at + recordWidth = ap (λ (v : Verdict). v .at) e in
     let count : c .after .result .accepted ≡ here z .accepted + 1 = ap (λ (v : Verdict). v .accepted) e in (
@@ -175,7 +187,7 @@ loop-again c =
       kept (c .before) .rules,
       kept (c .before) .tidy,
       z .loop .inv .4
-          ∙ here-on (here z) (runAt z) (omega arith) (sym (number (c .before .before .before .before)) ∙ c .before .before .before .if3 .left)
+          ∙ here-on (here z) (runAt z) (omega arith) (ok (c .before .before))
           ∙ ap (λ (v : Verdict). fromHere v (runAt z)) (sym (e ∙ ap (after (here z)) (handed (c .before)))),
     )
 
@@ -205,11 +217,12 @@ judge-actions-spec =
     refusal-on-requires
     verdict-requires-2
     returns-2
-    add-state-after
-    sub-state-after
-    part-state-after-start
-    part-state-after-end
-    state-after-requires
+    add-action-of
+    sub-action-of
+    part-action-of-start
+    part-action-of-end
+    action-of-requires
+    effect-requires
     after-requires
     loop-less
     loop-again

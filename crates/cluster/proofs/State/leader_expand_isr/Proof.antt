@@ -17,7 +17,7 @@ including-member-requires c κs =
 quorum-update-leader-and-isr-requires : tie.Need-quorum-update-leader-and-isr-requires
 quorum-update-leader-and-isr-requires c κs =
     let x = c .before .before .args in
-    replica-five (x .self) (c .before .before .pre .0) (x .a) (c .before .before .pre .1 .0)
+    (replica-five (x .self) (c .before .before .pre .0) (x .a) (c .before .before .pre .1 .0), c .before .replica-at .ensures)
 
 returns : tie.Need-returns
 unfolding leaderExpandIsr
