@@ -65,12 +65,12 @@ pub fn check_isr(property: Property, s: State) -> IsrAnswer
     let mut answer = IsrAnswer::with_zeros(ACCEPTED, true);
     let mut r: u8 = 0;
     'leaders: while r < n {
-        let members = isr::where_presuming(s.replicas[r as usize], r, n);
+        let p = s.replicas[r as usize];
+        let members = isr::where_presuming(p, r, n);
+        let isr = isr::isr_asked(property, p.isr, quorum.isr);
         let mut m: u8 = 0;
         while m < members {
-            let p = s.replicas[r as usize];
             let q = s.replicas[m as usize];
-            let isr = isr::isr_asked(property, p.isr, quorum.isr);
             let offsets = isr::offsets_asked(isr, r, m, p.hw);
             let mut x: u8 = 0;
             while x < offsets {
