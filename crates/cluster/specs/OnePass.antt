@@ -1,5 +1,5 @@
--- The rules S1 to S7 as they are tested: S2 of the quorum and the requests before the replicas, and then what S2, S5, S6 and S7 ask of
--- the replicas, in one pass over them. Assumes nothing.
+-- The rules S1 to S7 as they are tested: S2 of the quorum and the requests before the replicas, and then what S2, S5, S6 and S7
+-- ask of the replicas, in one pass over them. Assumes nothing.
 use Prim.Native.Nat.{ℕ, _<_}
 use mathlib.Core.Path.{_≡_, refl, sym, _∙_, ap}
 use mathlib.Core.Bool.{Bool, true, false, _&&_}
@@ -33,7 +33,7 @@ passTests s =
     ∷ agreeAll (replicate 256 0) (concatBelow (replicaCount (s .limits)) (entriesAt (s .replicas)))
     ∷ []
 
--- all tests in the order of the code
+-- all tests, those of the pass last
 abbrev pub onePassTests : State → List Bool
 onePassTests s =
     rule1 (s .limits) (nextLeaderEpoch s) (nextRecordId s)

@@ -1,7 +1,7 @@
 -- What the tests of the rules say, case by case. Assumes nothing.
 use Prim.Native.Nat.{ℕ, zero, suc, _+_, _-_, _≤_}
 use mathlib.Core.Path.{ap, _≡_, refl, sym, _∙_}
-use mathlib.Core.Bool.{Bool, true, false, _&&_, cond}
+use mathlib.Core.Bool.{Bool, true, false, _&&_}
 use mathlib.Core.List.{List}
 use mathlib.Core.Logic.{_↔_}
 use native.Mathlib.Omega.{arith}
@@ -26,11 +26,11 @@ use Rattle.cluster.specs.State.{replicaCount, logSize, maxRecords, maxLe
 use Rattle.cluster.specs.Rules.{between, limitTests, inRange, rule1Tests, rule1, replicaInRange, replicaInRangeAt, leaderAndIsrInRange, rule2Tests, rule2, quorumMatchesRequest, replicaMatchesRequest, rule7, ruleTests, rules, brokenRule, stateRefusal, Bounded, LogsBounded}
 
 -- ---- S1
-pub between-low : (low high n : ℕ) → between low high n ≡ true → low ≤ n
+between-low : (low high n : ℕ) → between low high n ≡ true → low ≤ n
 unfolding between
 between-low low high n h = leb-true low n (and-left (leb low n) (leb n high) h)
 
-pub between-high : (low high n : ℕ) → between low high n ≡ true → n ≤ high
+between-high : (low high n : ℕ) → between low high n ≡ true → n ≤ high
 unfolding between
 between-high low high n h = leb-true n high (and-right (leb low n) (leb n high) h)
 

@@ -9,7 +9,7 @@ use replica::Replica;
 
 impl State {
     // The replica named i. The caller shows that i is below 5.
-    pub fn replica_at(self, i: u8) -> Replica
+    pub(crate) fn replica_at(self, i: u8) -> Replica
         requires { ⌜ i < 5 ⌝ }
         ensures { λ r. ⌜ r ≡ replicaAt self i ⌝ }
     {

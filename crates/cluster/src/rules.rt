@@ -1,7 +1,7 @@
 // The state rules S1 to S7. Each rule after S1 relies on those before it: its `requires` says what it takes from them.
 ghost use mathlib.Core.Path.{_≡_};
 ghost use Prim.Native.Nat.{_≤_, _<_};
-ghost use mathlib.Core.Bool.{true, not, _&&_, _||_};
+ghost use mathlib.Core.Bool.{not, _&&_, _||_};
 ghost use lib.Dec.{eqb};
 ghost use Rattle.logic.specs.Tests.{allBelow, every};
 ghost use Rattle.parts.specs.Isr.{member};

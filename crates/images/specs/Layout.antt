@@ -43,7 +43,7 @@ layoutRefusal bs = layoutBy (headerRefusal bs) bs
 abbrev pub partAt : {A : Type 0} → ℕ → (List ℕ → A) → List ℕ → ℕ → A
 partAt w value bs x = value (drop (w * x) bs)
 
--- an array with f 0, f 1, .. in its first n places
+-- an array with f 0, f 1, .. in its first n places, and behind them what it held
 unfoldable pub storedBelow : {A : Type 0} → ℕ → (ℕ → A) → List A → List A
 storedBelow zero f array = array
 storedBelow (suc n) f array = set (storedBelow n f array) n (f n)
@@ -59,6 +59,7 @@ requestsOf n bs = storedBelow n (partAt requestWidth requestOf bs) (replicate 16
 abbrev pub replicaLength : List ℕ → ℕ
 replicaLength bs = replicaWidth + recordWidth * byteAt bs 4
 
+-- what it says, with its log
 abbrev pub replicaWithLog : List ℕ → Replica
 replicaWithLog bs = withLog (replicaOfHead bs) (recordsOf (byteAt bs 4) (drop replicaWidth bs))
 

@@ -16,10 +16,10 @@ use Rattle.logic.specs.Refuse.{refuse-zero}
 use Rattle.logic.specs.Table.{cond-true, cond-false}
 use Rattle.parts.specs.Refusal.{accepted, brokenState, tooShort, leftOver}
 use Rattle.parts.specs.Mark.{byteAt, marked}
-use Rattle.replica.specs.Replica.{zeroRecord, withLog}
+use Rattle.replica.specs.Replica.{withLog}
 use Rattle.replica.specs.declared.Replica.{Replica}
 use Rattle.cluster.specs.declared.State.{State}
-use Rattle.cluster.specs.State.{limitsOf, nextLeaderEpoch, zeroRequest, withRequests, withReplicas}
+use Rattle.cluster.specs.State.{limitsOf, zeroRequest, withRequests, withReplicas}
 use Rattle.cluster.specs.Rules.{inRange, rule1, rules, stateRefusal}
 use Rattle.cluster.specs.RuleLaws.{Sizes, sizes-of, refusal-met, refusal-broken}
 use Rattle.cluster.specs.Fresh.{answer}
@@ -39,17 +39,17 @@ pub part-back : {A : Type 0} (n : ℕ) (value : List ℕ → A) (bs : List ℕ) 
 unfolding part
 part-back n value bs h = cond-true (leb n (length bs)) (parsed (value bs) (drop n bs)) missing (le-leb n (length bs) h)
 
-pub part-read : {A : Type 0} (n : ℕ) (value : List ℕ → A) (bs : List ℕ) (at : ℕ) → at + n ≤ length bs
+part-read : {A : Type 0} (n : ℕ) (value : List ℕ → A) (bs : List ℕ) (at : ℕ) → at + n ≤ length bs
     → part n value (drop at bs) ≡ parsed (value (drop at bs)) (drop (at + n) bs)
 part-read n value bs at h = part-back n value (drop at bs) (rw length-drop (omega arith)) ∙ ap (λ (l : List ℕ). parsed (value (drop at bs)) l) (drop-drop n at bs)
 
-pub part-missing : {A : Type 0} (n : ℕ) (value : List ℕ → A) (bs : List ℕ) (at : ℕ) → length bs - at < n
+part-missing : {A : Type 0} (n : ℕ) (value : List ℕ → A) (bs : List ℕ) (at : ℕ) → length bs - at < n
     → part n value (drop at bs) ≡ missing
 unfolding part
 part-missing n value bs at h = rw (length-drop, lt-leb n (length bs - at) h)
 
 -- ---- a part that is refused stops what follows it
-pub then-stops : {A B : Type 0} (m : Parsed A) (next : A → List ℕ → Parsed B) → (refusalOf m ≡ accepted → ⊥) → refusalOf (andThen m next) ≡ refusalOf m
+then-stops : {A B : Type 0} (m : Parsed A) (next : A → List ℕ → Parsed B) → (refusalOf m ≡ accepted → ⊥) → refusalOf (andThen m next) ≡ refusalOf m
 unfolding andThen refusalOf
 then-stops missing next h = refl
 then-stops endAbove next h = refl
@@ -74,13 +74,13 @@ pub parsed-rest : {A : Type 0} (x y : A) (bs cs : List ℕ) → parsed x bs ≡ 
 parsed-rest x y bs cs h = cc
 
 -- ---- n parts of w bytes each, one after the other
-pub stored-more : {A : Type 0} (n : ℕ) (f : ℕ → A) (array : List A) → set (storedBelow n f array) n (f n) ≡ storedBelow (n + 1) f array
+pub stored-below-more : {A : Type 0} (n : ℕ) (f : ℕ → A) (array : List A) → set (storedBelow n f array) n (f n) ≡ storedBelow (n + 1) f array
 unfolding storedBelow
-stored-more n f array = rw add-one refl
+stored-below-more n f array = rw add-one refl
 
 module _ {A : Type 0} (w : ℕ) (value : List ℕ → A) (array : List A) (bs : List ℕ) where
   -- where their bytes are there
-  pub fill-parts : (n : ℕ) → w * n ≤ length bs → fill (part w value) n array bs ≡ parsed (storedBelow n (partAt w value bs) array) (drop (w * n) bs)
+  fill-parts : (n : ℕ) → w * n ≤ length bs → fill (part w value) n array bs ≡ parsed (storedBelow n (partAt w value bs) array) (drop (w * n) bs)
   unfolding fill storedBelow
   fill-parts zero h = rw mul-zero refl
   fill-parts (suc n) h =
@@ -93,7 +93,7 @@ module _ {A : Type 0} (w : ℕ) (value : List ℕ → A) (array : List A) (bs : 
       (part-read w value bs (w * n) (omega (arith, more))))
 
   -- where they are not
-  pub fill-short : (n : ℕ) → length bs < w * n → refusalOf (fill (part w value) n array bs) ≡ tooShort
+  fill-short : (n : ℕ) → length bs < w * n → refusalOf (fill (part w value) n array bs) ≡ tooShort
   unfolding fill refusalOf
   fill-short zero h = absurd (omega (arith, mul-zero w))
   fill-short (suc n) h =
@@ -113,24 +113,24 @@ module _ {A : Type 0} (w : ℕ) (value : List ℕ → A) (array : List A) (bs : 
 
 -- ---- parts that are there, with nothing left over
 module _ {A : Type 0} where
-  pub whole-stops : (m : Parsed A) → (refusalOf m ≡ accepted → ⊥) → refusalOf m ≡ wholeRefusal m
+  whole-stops : (m : Parsed A) → (refusalOf m ≡ accepted → ⊥) → refusalOf m ≡ wholeRefusal m
   unfolding refusalOf wholeRefusal
   whole-stops missing h = refl
   whole-stops endAbove h = refl
   whole-stops (parsed x bs) h = absurd (h refl)
 
-  pub whole-over : (x : A) (bs : List ℕ) → 0 < length bs → leftOver ≡ wholeRefusal (parsed x bs)
+  whole-over : (x : A) (bs : List ℕ) → 0 < length bs → leftOver ≡ wholeRefusal (parsed x bs)
   unfolding wholeRefusal
   whole-over x [] h = absurd (omega arith)
   whole-over x (b ∷ bs) h = refl
 
-  pub whole-all : (x : A) (bs : List ℕ) → length bs ≤ 0 → accepted ≡ wholeRefusal (parsed x bs)
+  whole-all : (x : A) (bs : List ℕ) → length bs ≤ 0 → accepted ≡ wholeRefusal (parsed x bs)
   unfolding wholeRefusal
   whole-all x [] h = refl
   whole-all x (b ∷ bs) h = absurd (omega arith)
 
   -- the other way round
-  pub whole-parsed : (m : Parsed A) → wholeRefusal m ≡ accepted → (x : A) × (m ≡ parsed x [])
+  whole-parsed : (m : Parsed A) → wholeRefusal m ≡ accepted → (x : A) × (m ≡ parsed x [])
   unfolding wholeRefusal
   whole-parsed missing h = absurd (omega arith)
   whole-parsed endAbove h = absurd (omega arith)
@@ -138,7 +138,7 @@ module _ {A : Type 0} where
   whole-parsed (parsed x []) h = (x, refl)
 
   -- it is not the value that decides
-  pub whole-put : {B : Type 0} (put : A → B) (m : Parsed A) → wholeRefusal (andThen m (λ x rest. parsed (put x) rest)) ≡ wholeRefusal m
+  whole-put : {B : Type 0} (put : A → B) (m : Parsed A) → wholeRefusal (andThen m (λ x rest. parsed (put x) rest)) ≡ wholeRefusal m
   unfolding wholeRefusal andThen
   whole-put put missing = refl
   whole-put put endAbove = refl

@@ -1,5 +1,5 @@
--- What writing an image answers, case by case: the state breaks a rule, the buffer is short, or the image is written; and the
--- bytes of a part stored one by one. Assumes nothing.
+-- What writing an image answers, case by case: the state breaks a rule, the buffer is short, or the image is written; the
+-- bytes of requests without their state; and the bytes of a part stored one by one. Assumes nothing.
 use Prim.Native.Nat.{ℕ, zero, suc, _+_, _≤_, _<_}
 use mathlib.Core.Path.{_≡_, refl, sym, _∙_, ap}
 use mathlib.Core.Bool.{true, false, not}

@@ -1,6 +1,6 @@
-// The reader, in two steps: first whether all parts are there and nothing is left over, which makes no state; then the state of parts
-// that are. So a refusal copies no state, and a part that is read is known to be there. The caller of each function shows that the
-// bytes of its part are there.
+// The reader, in two steps: first whether all parts are there and nothing is left over, which makes no state; then the state of
+// parts that are there. A function of the first step that takes a place asks of its caller that the place is in the bytes, one of
+// the second that the bytes of its part are.
 ghost use mathlib.Core.Path.{_≡_};
 ghost use mathlib.Core.List.{[]};
 ghost use Prim.Native.Nat.{_+_, _*_, _≤_};
@@ -122,7 +122,8 @@ fn replica_of(bytes: &[u8], at: usize) -> Replica
     p
 }
 
-// The refusal of a replica, whose end is tested before its log; 0 where it is there.
+// The refusal of a replica, whose end is tested before its log; 0 where it is there. The caller shows that the place is in the
+// bytes.
 fn replica_refusal(bytes: &[u8], at: usize, log_size: u8) -> u8
     requires { ⌜ at ≤ length (now bytes) ⌝ }
     ensures { λ r. ⌜ r ≡ refusalOf (readReplica «log_size» (drop at (now (bytes .entry)))) ⌝ }
@@ -141,7 +142,7 @@ fn replica_refusal(bytes: &[u8], at: usize, log_size: u8) -> u8
 }
 
 // The refusal of the replicas, the last part of an image; 0 where all are there and nothing is left over. The caller shows that the
-// first ten bytes are there.
+// first ten bytes are there, and that the place is in the bytes.
 fn replicas_refusal(bytes: &[u8], at: usize) -> u8
     requires { ⌜ headerWidth ≤ length (now bytes) ⌝ }
     requires { ⌜ at ≤ length (now bytes) ⌝ }
@@ -165,7 +166,7 @@ fn replicas_refusal(bytes: &[u8], at: usize) -> u8
     ACCEPTED
 }
 
-// The replicas. The caller shows that none is refused and that the arrays have room for them.
+// The replicas. The caller shows what `replicas_refusal` asks, that it answers 0, and that R is at most 5 and L at most 16.
 fn replicas_of(bytes: &[u8], at: usize) -> [Replica; 5]
     requires { ⌜ headerWidth ≤ length (now bytes) ⌝ }
     requires { ⌜ at ≤ length (now bytes) ⌝ }
@@ -220,7 +221,7 @@ pub(crate) fn refused(number: u8) -> Outcome
 }
 
 // The refusal of an image by its bytes: by the first ten, and then by a part that is missing, an end above L or bytes left over. 0
-// where its parts are all there; whether the state meets the rules is not asked.
+// where its parts are all there; whether the state meets the other rules is not asked.
 pub fn layout_refusal(bytes: &[u8]) -> u8
     ensures { λ r. ⌜ r ≡ layoutRefusal (now (bytes .entry)) ⌝ }
 {
@@ -235,7 +236,7 @@ pub fn layout_refusal(bytes: &[u8]) -> u8
     replicas_refusal(bytes, replicas)
 }
 
-// The state of an image, with zeros in its unused room. The caller, one of our own crates, shows that its parts are all there.
+// The state of an image, with zeros in its unused room. The caller, one of our own crates, shows that `layout_refusal` is 0.
 pub fn state_of(bytes: &[u8]) -> State
     requires { ⌜ layoutRefusal (now bytes) ≡ accepted ⌝ }
     ensures { λ r. ⌜ bodyOf (now (bytes .entry)) ≡ parsed r [] ⌝ }

@@ -22,7 +22,7 @@ use Rattle.cluster.specs.declared.Request.{Request}
 use Rattle.cluster.specs.declared.State.{State}
 use Rattle.logic.specs.Refuse.{refuse-yes, refuse-no, refuse-none}
 use Rattle.parts.specs.Refusal.{accepted, brokenState, notRenaming}
-use Rattle.cluster.specs.State.{replicaCount, nextLeaderEpoch, nextRecordId, zeroRequest, replicaIn, stateOf}
+use Rattle.cluster.specs.State.{replicaCount, nextLeaderEpoch, nextRecordId, zeroRequest, requestIn, replicaIn, stateOf}
 use Rattle.cluster.specs.Rules.{rules, stateRefusal}
 use Rattle.cluster.specs.RuleLaws.{refusal-broken}
 use Rattle.cluster.specs.Fresh.{answer}
@@ -30,7 +30,7 @@ use Rattle.cluster.specs.Act.{answerBy}
 use Rattle.cluster.specs.ActLaws.{answer-zero, answer-other}
 use Rattle.cluster.specs.Equality.{state-path}
 use Rattle.renamings.specs.Names.{newName, holder, oldName, inverted, nameIn, Inward, inPlace, isRenaming, withoutPlace, orders, rows, row, tableNumbers}
-use Rattle.renamings.specs.Rename.{renameIsr, renamedRequestAt, renameQuorum, renameRequest, renameReplica, renamedReplicaAt, renameReplicas, renameState, renamed, Renames, renameRefusal, rename}
+use Rattle.renamings.specs.Rename.{renameLeader, renameIsr, renamedRequestAt, renameQuorum, renameRequest, renameReplica, renamedReplicaAt, renameReplicas, renameState, renamed, Renames, renameRefusal, rename}
 use Rattle.renamings.specs.Renaming.{to-below, from-below}
 use Rattle.renamings.specs.Rows.{keepsPlace, rows-count, renamingOf, row-numbers}
 
@@ -113,12 +113,23 @@ member-rest isr i =
         below-five (λ (k : ℕ). isr % 32 / 2 ^ k % 2 ≡ isr / 2 ^ k % 2) (omega arith) (omega arith) (omega arith) (omega arith) (omega arith)
 
 -- what the table of all renamed ISRs holds for an ISR
-pub isr-named : (from : ℕ → ℕ) (names : List ℕ) (isr : ℕ) → names ≡ table 32 (renameIsr from) → getD names (isr % 32) 0 ≡ renameIsr from isr
+pub isr-named : (from : ℕ → ℕ) (isrs : List ℕ) (isr : ℕ) → isrs ≡ table 32 (renameIsr from) → getD isrs (isr % 32) 0 ≡ renameIsr from isr
 unfolding renameIsr
-isr-named from names isr e =
+isr-named from isrs isr e =
     rw e
     (getD-table 32 (renameIsr from) (isr % 32) 0 (mod-lt isr (omega arith))
     ∙ isrOf-cong (λ j. member (isr % 32) (from j)) (λ j. member isr (from j)) (λ j h. member-rest isr (from j)))
+
+-- request e of these, with its ISR looked up in such a table
+abbrev pub requestLookedUp : List ℕ → List ℕ → List Request → ℕ → Request
+requestLookedUp p isrs requests e =
+    record { leader = renameLeader (newName p) (requestIn requests e .leader); isr = getD isrs (requestIn requests e .isr % 32) 0 }
+
+pub requests-looked-up : (p isrs : List ℕ) (requests : List Request) (from : ℕ → ℕ) → isrs ≡ table 32 (renameIsr from)
+    → table 16 (requestLookedUp p isrs requests) ≡ table 16 (renamedRequestAt (newName p) from requests)
+requests-looked-up p isrs requests from e =
+    table-cong 16 (requestLookedUp p isrs requests) (renamedRequestAt (newName p) from requests)
+    (λ i h. rw (isr-named from isrs (requestIn requests i .isr) e) refl)
 
 -- ---- the old names as five numbers
 -- before the first place each number is its own

@@ -1,15 +1,16 @@
 // A state under a renaming p; `back` is its inverse, which holds the old names. The caller of each function that takes it shows
-// that each old name is below five. `names` holds the renamed ISR of each ISR of five replicas, and the ISRs of a state are looked
+// that each old name is below five. `isrs` holds the renamed ISR of each ISR of five replicas, and the ISRs of a state are looked
 // up in it: an ISR's remainder by 32 has the same members.
 ghost use mathlib.Core.Path.{_≡_};
 ghost use mathlib.Core.Bool.{true};
-ghost use Prim.Native.Nat.{ℕ, _≤_, _<_};
+ghost use Prim.Native.Nat.{_≤_, _<_};
 ghost use Rattle.parts.specs.Isr.{member, bit};
 ghost use Rattle.logic.specs.Table.{table};
 ghost use Rattle.replica.specs.Replica.{replicaOf};
 ghost use Rattle.cluster.specs.Rules.{rules};
 ghost use Rattle.renamings.specs.Names.{newName, oldName, nameIn, Inward};
-ghost use Rattle.renamings.specs.Rename.{renameLeader, renameIsr, renamedRequestAt, renameReplicas, renameState, Renames};
+ghost use Rattle.renamings.specs.Rename.{renameLeader, renameIsr, renameReplicas, renameState, Renames};
+ghost use Rattle.renamings.specs.CodeLaws.{requestLookedUp};
 use crate::places;
 use cluster::Quorum;
 use cluster::Request;
@@ -48,24 +49,24 @@ fn rename_isr(back: [u8; 5], isr: u8) -> u8
     a + 2 * b + 4 * c + 8 * d + 16 * e
 }
 
-// The table `names`: place m holds the renamed ISR of m. A loop without a branch makes many at a time, and is quicker for all 32
-// than for each of the 22 ISRs of a state by itself.
-fn isr_names(back: [u8; 5]) -> [u8; 32]
+// The renamed ISRs: place m holds that of m. The loop has no branch and renames many ISRs at a time; it is quicker for all 32 than
+// for each of the 22 ISRs of a state by itself.
+fn renamed_isrs(back: [u8; 5]) -> [u8; 32]
     requires { ⌜ Inward back ⌝ }
     ensures { λ r. ⌜ r ≡ table 32 (renameIsr (nameIn back)) ⌝ }
 {
-    let mut names = [0; 32];
+    let mut isrs = [0; 32];
     let mut isr: u8 = 0;
     while isr < 32 {
-        names[isr as usize] = rename_isr(back, isr);
+        isrs[isr as usize] = rename_isr(back, isr);
         isr = isr + 1;
     }
-    names
+    isrs
 }
 
-// The requests with their leaders and ISRs by the new names.
-fn rename_requests(p: [u8; 5], names: [u8; 32], requests: [Request; 16]) -> [Request; 16]
-    ensures { λ r. ⌜ ((from : ℕ → ℕ) → names ≡ table 32 (renameIsr from) → r ≡ table 16 (renamedRequestAt (newName p) from requests)) ⌝ }
+// The requests with their leaders by the new names and their ISRs as looked up.
+fn rename_requests(p: [u8; 5], isrs: [u8; 32], requests: [Request; 16]) -> [Request; 16]
+    ensures { λ r. ⌜ r ≡ table 16 (requestLookedUp p isrs requests) ⌝ }
 {
     let mut named = requests;
     let mut e: usize = 0;
@@ -74,7 +75,7 @@ fn rename_requests(p: [u8; 5], names: [u8; 32], requests: [Request; 16]) -> [Req
         let l = q.leader;
         let r = Request {
             leader: rename_leader(p, l),
-            isr: names[(q.isr % 32) as usize],
+            isr: isrs[(q.isr % 32) as usize],
         };
         named[e] = r;
         e = e + 1;
@@ -98,22 +99,22 @@ fn rename_replica(p: [u8; 5], isr: u8, q: Replica) -> Replica
     }
 }
 
-// The blocks renamed: place j gets that of the replica which is named j from now on. The caller shows what `names` holds, too.
+// The blocks renamed: place j gets that of the replica which is named j from now on. The caller shows what `isrs` holds, too.
 fn rename_replicas(
     p: [u8; 5],
     back: [u8; 5],
-    names: [u8; 32],
+    isrs: [u8; 32],
     replicas: [Replica; 5],
 ) -> [Replica; 5]
     requires { ⌜ Inward back ⌝ }
-    requires { ⌜ names ≡ table 32 (renameIsr (nameIn back)) ⌝ }
+    requires { ⌜ isrs ≡ table 32 (renameIsr (nameIn back)) ⌝ }
     ensures { λ r. ⌜ r ≡ renameReplicas (newName p) (nameIn back) replicas ⌝ }
 {
     let mut named = replicas;
     let mut j: usize = 0;
     while j < 5 {
         let q = replicas[back[j] as usize];
-        let block = rename_replica(p, names[(q.isr % 32) as usize], q);
+        let block = rename_replica(p, isrs[(q.isr % 32) as usize], q);
         named[j] = block;
         j = j + 1;
     }
@@ -127,13 +128,13 @@ pub fn rename_state(s: State, p: [u8; 5]) -> State
     ensures { λ r. ⌜ r ≡ renameState (newName p) (oldName p) s ⌝ }
 {
     let back = places::inverse(p);
-    let names = isr_names(back);
+    let isrs = renamed_isrs(back);
     let q = s.quorum;
     let l = q.leader;
     let quorum = Quorum {
         epoch: q.epoch,
         leader: rename_leader(p, l),
-        isr: names[(q.isr % 32) as usize],
+        isr: isrs[(q.isr % 32) as usize],
     };
     let requests = s.requests;
     let replicas = s.replicas;
@@ -143,7 +144,7 @@ pub fn rename_state(s: State, p: [u8; 5]) -> State
         next_leader_epoch: s.next_leader_epoch,
         next_record_id: s.next_record_id,
         quorum: quorum,
-        requests: rename_requests(p, names, requests),
-        replicas: rename_replicas(p, back, names, replicas),
+        requests: rename_requests(p, isrs, requests),
+        replicas: rename_replicas(p, back, isrs, replicas),
     }
 }

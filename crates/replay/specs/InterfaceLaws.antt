@@ -30,7 +30,7 @@ use Rattle.images.specs.ReadLaws.{read-refused, read-met, read-unmet}
 use Rattle.runs.specs.declared.Verdict.{Verdict}
 use Rattle.flat.specs.Flat.{flatWidth, flat, stateOfFlat}
 use Rattle.flat.specs.FlatLaws.{flat-width}
-use Rattle.replay.specs.Interface.{Reply, refuses, gives, number, outAfter, lengthWritten, Replies, replyBy, stateReply, imageReply, renameBy, widthRefusal, onState, numberAndLength, verdictWidth, numberBytes, verdictBytes}
+use Rattle.replay.specs.Interface.{Reply, gives, number, outAfter, lengthWritten, Replies, replyBy, stateReply, imageReply, renameBy, widthRefusal, onState, numberAndLength, verdictWidth, numberBytes, verdictBytes}
 
 -- ---- replies
 -- the answer's own number refuses
@@ -40,7 +40,7 @@ replies-refused zero reply out h = absurd (h refl)
 replies-refused (suc n) reply out h = (refl, refl)
 
 -- it does not
-pub reply-accepted : (n : ℕ) (reply : Reply) → n ≡ accepted → reply ≡ replyBy n reply
+reply-accepted : (n : ℕ) (reply : Reply) → n ≡ accepted → reply ≡ replyBy n reply
 unfolding replyBy
 reply-accepted n reply h = rw h
 
@@ -60,7 +60,7 @@ module _ (n : ℕ) (bytes out : List ℕ) (h : n ≡ accepted) where
       (sym (cond-false _ _ _ (le-ltb (length out) (length bytes) k)), stored-front w k ∙ sym (cond-false _ _ _ (le-ltb (length out) (length bytes) k)))
 
 -- a number that refuses says all: the state beside it does not count
-pub reply-refused : (n : ℕ) (s t : State) → (n ≡ accepted → ⊥) → stateReply (answer n s) ≡ stateReply (answer n t)
+reply-refused : (n : ℕ) (s t : State) → (n ≡ accepted → ⊥) → stateReply (answer n s) ≡ stateReply (answer n t)
 unfolding stateReply replyBy
 reply-refused zero s t h = absurd (h refl)
 reply-refused (suc n) s t h = refl

@@ -95,7 +95,7 @@ pub extern "C" fn replay_write_image(state: &[u8], out: &mut [u8]) -> u32
     (written.refusal as u32) + 256 * (written.length as u32)
 }
 
-// The state of an image. It is not made where a part of the image is missing.
+// The state of an image. None is made where the image is refused by its bytes.
 #[no_mangle]
 pub extern "C" fn replay_read_image(bytes: &[u8], out: &mut [u8]) -> u8
     ensures { λ n. ⌜ Replies (replayReadImage (now (bytes .entry))) (now (out .entry)) n (now (out .exit)) ⌝ }

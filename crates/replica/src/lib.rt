@@ -150,8 +150,8 @@ impl Replica {
     }
 
     // Rules S6 and S7 of the replica's log, given the records seen before it: each record is in use, and one of an id that was
-    // seen has the mark of that id. Where both hold, the table then has the marks of this log too. The caller shows that its end
-    // is in its array.
+    // seen has the mark of that id. Where both hold, the table then has the marks of this log too; where one fails, nothing is said
+    // of the table. The caller shows that its end is in its array.
     pub fn log_meets_s6_s7(self, next_id: u8, next_epoch: u8, seen: &mut [u16; 256]) -> bool
         requires { ⌜ self .end ≤ 16 ⌝ }
         ensures { λ r. ⌜ LogMet «next_id» «next_epoch» self (now (seen .entry)) r (now (seen .exit)) ⌝ }

@@ -75,7 +75,7 @@ resumed v trace =
     (lastOf (v .state) (trace .states))
 
 -- equal numbers make equal verdicts
-pub verdict-cong : {a b w x y z e f : ℕ} (number at : ℕ) (s : State) → a ≡ b → w ≡ x → y ≡ z → e ≡ f
+verdict-cong : {a b w x y z e f : ℕ} (number at : ℕ) (s : State) → a ≡ b → w ≡ x → y ≡ z → e ≡ f
     → verdictOf a number at w y e s ≡ verdictOf b number at x z f s
 verdict-cong number at s p q r t = rw (p, q, r, t)
 

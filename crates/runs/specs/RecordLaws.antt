@@ -65,13 +65,14 @@ pub whole-acts : (s : State) (bytes : List ℕ) → recordRefusal actionMark byt
 unfolding actOn
 whole-acts s bytes = record-said (recordRefusal actionMark bytes) s (act s (actionIn bytes))
 
--- and so does an accepted one, which is such a record
-accepted-whole : (s : State) (bytes : List ℕ) → actOn s bytes .refusal ≡ accepted → recordRefusal actionMark bytes ≡ accepted
+-- an accepted one is such a record
+accepted-marked : (s : State) (bytes : List ℕ) → actOn s bytes .refusal ≡ accepted → recordRefusal actionMark bytes ≡ accepted
 unfolding actOn
-accepted-whole s bytes = record-accepted (recordRefusal actionMark bytes) s (act s (actionIn bytes))
+accepted-marked s bytes = record-accepted (recordRefusal actionMark bytes) s (act s (actionIn bytes))
 
+-- so it answers as its action does
 pub accepted-acts : (s : State) (bytes : List ℕ) → actOn s bytes .refusal ≡ accepted → actOn s bytes ≡ act s (actionIn bytes)
-accepted-acts s bytes h = whole-acts s bytes (accepted-whole s bytes h)
+accepted-acts s bytes h = whole-acts s bytes (accepted-marked s bytes h)
 
 -- any other answers by its length and its mark
 pub unread : (s : State) (bytes : List ℕ) (n : ℕ) → recordRefusal actionMark bytes ≡ suc n → actOn s bytes ≡ answer (suc n) s
@@ -91,13 +92,13 @@ module _ (s : State) (bytes : List ℕ) (h : rules s ≡ true) (t : tidy s ≡ s
 
   -- an accepted one: its action is accepted, and the effect of that is the state that the record hands back
   pub accepted-number : actOn s bytes .refusal ≡ accepted → actionRefusal s (actionIn bytes) ≡ accepted
-  accepted-number ok = whole-number (accepted-whole s bytes ok) ∙ ok
+  accepted-number ok = whole-number (accepted-marked s bytes ok) ∙ ok
 
   pub accepted-state : actOn s bytes .refusal ≡ accepted → effect s (actionIn bytes) ≡ actOn s bytes .state
   unfolding step
   accepted-state ok =
       ap (λ (o : Outcome). o .state)
-      (answer-zero _ s (effect s (actionIn bytes)) (accepted-number ok) ∙ sym (steps (accepted-whole s bytes ok)))
+      (answer-zero _ s (effect s (actionIn bytes)) (accepted-number ok) ∙ sym (steps (accepted-marked s bytes ok)))
 
 -- the state that a record hands back, of a state that meets the rules and is tidy
 pub act-on-kept : (s : State) (bytes : List ℕ) → rules s ≡ true → tidy s ≡ s → Kept s (actOn s bytes .state)

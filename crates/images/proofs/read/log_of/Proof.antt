@@ -8,7 +8,7 @@ use Rattle.replica.specs.Replica.{zeroRecord}
 use Rattle.images.specs.Image.{recordWidth}
 use Rattle.images.specs.Read.{recordOf}
 use Rattle.images.specs.Layout.{partAt, storedBelow, recordsOf}
-use Rattle.images.specs.ReadLaws.{stored-more}
+use Rattle.images.specs.ReadLaws.{stored-below-more}
 use Rattle.images.proofs.read.log_of.Statement.{statement}
 use Rattle.images.proofs.read.log_of.Tie as tie
 
@@ -51,7 +51,7 @@ loop-again c =
     let r : c .record-of .result ≡ partAt recordWidth recordOf bs (l .x) =
     c .record-of .ensures ∙ ap recordOf (sym (drop-drop (recordWidth * l .x) (a .at) (a .bytes .now))) in (
       omega arith,
-      rw (l .inv .1, r) (stored-more (l .x) (partAt recordWidth recordOf bs) (replicate 16 zeroRecord)),
+      rw (l .inv .1, r) (stored-below-more (l .x) (partAt recordWidth recordOf bs) (replicate 16 zeroRecord)),
     )
 
 returns : tie.Need-returns Inv-loop μ-loop

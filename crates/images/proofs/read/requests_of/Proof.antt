@@ -8,7 +8,7 @@ use Rattle.cluster.specs.State.{zeroRequest}
 use Rattle.images.specs.Image.{headerWidth, requestWidth}
 use Rattle.images.specs.Read.{requestOf}
 use Rattle.images.specs.Layout.{partAt, storedBelow, requestsOf}
-use Rattle.images.specs.ReadLaws.{stored-more}
+use Rattle.images.specs.ReadLaws.{stored-below-more}
 use Rattle.images.proofs.read.requests_of.Statement.{statement}
 use Rattle.images.proofs.read.requests_of.Tie as tie
 
@@ -50,7 +50,7 @@ loop-again c =
     let r : c .request-of .result ≡ partAt requestWidth requestOf (drop headerWidth bs) (l .e) =
     c .request-of .ensures ∙ ap requestOf (sym (drop-drop (requestWidth * l .e) headerWidth bs)) in (
       omega arith,
-      rw (l .inv .1, r) (stored-more (l .e) (partAt requestWidth requestOf (drop headerWidth bs)) (replicate 16 zeroRequest)),
+      rw (l .inv .1, r) (stored-below-more (l .e) (partAt requestWidth requestOf (drop headerWidth bs)) (replicate 16 zeroRequest)),
     )
 
 returns : tie.Need-returns Inv-loop μ-loop

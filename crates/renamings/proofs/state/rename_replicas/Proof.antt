@@ -15,11 +15,11 @@ use Rattle.renamings.proofs.state.rename_replicas.Statement.{statement}
 use Rattle.renamings.proofs.state.rename_replicas.Tie as tie
 
 abbrev Inv-loop : tie.InvT-loop
-Inv-loop p back names replicas named₀ j₀ named j =
+Inv-loop p back isrs replicas named₀ j₀ named j =
     (j ≤ 5) × (named ≡ splice 5 j (renamedReplicaAt (newName p) (nameIn back) replicas) (replicaIn replicas))
 
 abbrev μ-loop : tie.MeasureT-loop
-μ-loop p back names replicas named₀ j₀ named j = 5 - j
+μ-loop p back isrs replicas named₀ j₀ named j = 5 - j
 
 loop-holds : tie.Need-loop-holds Inv-loop μ-loop
 loop-holds c =

@@ -1,28 +1,26 @@
-use Prim.Native.Nat.{ℕ, _≤_, _-_}
+use Prim.Native.Nat.{_≤_, _-_}
 use mathlib.Core.Path.{_≡_, refl}
 use mathlib.Core.List.{List}
 use native.Mathlib.Omega.{arith}
 use lib.ListN.{length, set}
 use borrow.Author.Needs.{needs}
-use Rattle.logic.specs.Table.{table, splice, splice-start, fill-turn, fill-end, length-mapped}
+use Rattle.logic.specs.Table.{splice, splice-start, fill-turn, fill-end, length-mapped}
 use Rattle.cluster.specs.declared.Request.{Request}
 use Rattle.cluster.specs.State.{zeroRequest, requestIn}
-use Rattle.renamings.specs.Names.{newName}
-use Rattle.renamings.specs.Rename.{renameIsr, renamedRequestAt}
-use Rattle.renamings.specs.CodeLaws.{isr-named}
+use Rattle.renamings.specs.CodeLaws.{requestLookedUp}
 use Rattle.renamings.proofs.state.rename_requests.Statement.{statement}
 use Rattle.renamings.proofs.state.rename_requests.Tie as tie
 
 abbrev Inv-loop : tie.InvT-loop
-Inv-loop p names requests named₀ e₀ named e =
-    (e ≤ 16) × ((from : ℕ → ℕ) → names ≡ table 32 (renameIsr from) → named ≡ splice 16 e (renamedRequestAt (newName p) from requests) (requestIn requests))
+Inv-loop p isrs requests named₀ e₀ named e =
+    (e ≤ 16) × (named ≡ splice 16 e (requestLookedUp p isrs requests) (requestIn requests))
 
 abbrev μ-loop : tie.MeasureT-loop
-μ-loop p names requests named₀ e₀ named e = 16 - e
+μ-loop p isrs requests named₀ e₀ named e = 16 - e
 
 loop-holds : tie.Need-loop-holds Inv-loop μ-loop
 loop-holds c =
-    let l : length (c .args .t3) ≡ 16 = search (needs, length-mapped) in (omega arith, λ from h. splice-start zeroRequest 16 (renamedRequestAt (newName (c .args .p)) from (c .args .t3)) (c .args .t3) l)
+    let l : length (c .args .t3) ≡ 16 = search (needs, length-mapped) in (omega arith, splice-start zeroRequest 16 (requestLookedUp (c .args .p) (c .args .t2) (c .args .t3)) (c .args .t3) l)
 
 mul-q : tie.Need-mul-q Inv-loop μ-loop
 mul-q c = search needs
@@ -55,14 +53,13 @@ loop-again : tie.Need-loop-again Inv-loop μ-loop
 loop-again c =
     let a = c .before .before .before .before .before .args in let at = c .before .before .before .before .loop in (
       omega arith,
-      λ from h.
-          fill-turn (λ (l : List Request). l) (λ (l : List Request) (v : Request). set l (at .e) v) 16 (at .e) (renamedRequestAt (newName (a .p)) from (a .t3)) (requestIn (a .t3)) (λ l. refl) (omega arith) (at .named) _ (at .inv .1 from h)
-          (rw (c .before .rename-leader .ensures, isr-named from (a .t2) (requestIn (a .t3) (at .e) .isr) h) refl),
+      fill-turn (λ (l : List Request). l) (λ (l : List Request) (v : Request). set l (at .e) v) 16 (at .e) (requestLookedUp (a .p) (a .t2) (a .t3)) (requestIn (a .t3)) (λ l. refl) (omega arith) (at .named) _ (at .inv .1)
+          (rw (c .before .rename-leader .ensures) refl),
     )
 
 returns : tie.Need-returns Inv-loop μ-loop
-returns c from h =
-    let a = c .before .before .args in let at = c .before .loop in fill-end (λ (l : List Request). l) 16 (at .e) (renamedRequestAt (newName (a .p)) from (a .t3)) (requestIn (a .t3)) (omega arith) (omega arith) (at .named) (at .inv .1 from h)
+returns c =
+    let a = c .before .before .args in let at = c .before .loop in fill-end (λ (l : List Request). l) 16 (at .e) (requestLookedUp (a .p) (a .t2) (a .t3)) (requestIn (a .t3)) (omega arith) (omega arith) (at .named) (at .inv .1)
 
 pub rename-requests-spec : {M : Type 1} → statement M
 rename-requests-spec =

@@ -1,3 +1,4 @@
+use mathlib.Core.Path.{_∙_}
 use mir.Facts.{toZ-ofZ}
 use mir.Syntax.{w8}
 use borrow.Author.Needs.{needs}
@@ -5,7 +6,7 @@ use Rattle.cluster.specs.State.{replicaCount}
 use Rattle.cluster.specs.RuleLaws.{rules-bounded}
 use Rattle.cluster.proofs.Owned.{shaped-of}
 use Rattle.renamings.specs.Names.{nameIn, Inward, inverted}
-use Rattle.renamings.specs.CodeLaws.{isr-named, both-inward, state-by}
+use Rattle.renamings.specs.CodeLaws.{isr-named, requests-looked-up, both-inward, state-by}
 use Rattle.renamings.proofs.state.rename_state.Statement.{statement}
 use Rattle.renamings.proofs.state.rename_state.Tie as tie
 
@@ -17,8 +18,8 @@ inward c =
 inverse-requires : tie.Need-inverse-requires
 inverse-requires c κs = inward c .0
 
-isr-names-requires : tie.Need-isr-names-requires
-isr-names-requires c κs = rw (c .inverse .ensures) (inward (c .before) .1)
+renamed-isrs-requires : tie.Need-renamed-isrs-requires
+renamed-isrs-requires c κs = rw (c .inverse .ensures) (inward (c .before) .1)
 
 rename-leader-requires : tie.Need-rename-leader-requires
 rename-leader-requires c κs = search needs
@@ -34,7 +35,7 @@ rename-requests-requires c κs = search needs
 
 rename-replicas-requires : tie.Need-rename-replicas-requires
 rename-replicas-requires c κs =
-    let o = c .before .before .before .before .before .before .before .before in (isr-names-requires (o .before) κs, o .isr-names .ensures)
+    let o = c .before .before .before .before .before .before .before .before in (renamed-isrs-requires (o .before) κs, o .renamed-isrs .ensures)
 
 returns : tie.Need-returns
 returns c =
@@ -42,13 +43,13 @@ returns c =
     let n = l .before .before in
     let o = n .before .before in
     let s = o .args .s in
-    let names = n .isr-names .ensures in
+    let isrs = n .renamed-isrs .ensures in
     let back = nameIn (n .before .inverse .result) in
     rw (
       c .rename-replicas .ensures,
-      c .before .rename-requests .ensures back names,
+      c .before .rename-requests .ensures ∙ requests-looked-up (o .args .p) (n .renamed-isrs .result) (s .requests) back isrs,
       l .rename-leader .ensures,
-      isr-named back (n .isr-names .result) (s .quorum .isr) names,
+      isr-named back (n .renamed-isrs .result) (s .quorum .isr) isrs,
       toZ-ofZ {w = w8} {z = s .quorum .epoch} (record { sfits = c .before .before .before .before .before .struct-told .given .0 .1 }),
       n .before .inverse .ensures,
     ) (state-by (o .args .p) s (shaped-of s _ (o .good .0) .requests))
@@ -58,7 +59,7 @@ rename-state-spec =
     tie.close
     (tie.spec
     inverse-requires
-    isr-names-requires
+    renamed-isrs-requires
     rename-leader-requires
     cast-t14
     array-read-t17

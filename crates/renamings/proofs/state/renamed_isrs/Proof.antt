@@ -7,14 +7,14 @@ use borrow.Author.Needs.{needs}
 use Rattle.logic.specs.Table.{splice, splice-start, fill-turn, fill-end}
 use Rattle.renamings.specs.Names.{nameIn}
 use Rattle.renamings.specs.Rename.{renameIsr}
-use Rattle.renamings.proofs.state.isr_names.Statement.{statement}
-use Rattle.renamings.proofs.state.isr_names.Tie as tie
+use Rattle.renamings.proofs.state.renamed_isrs.Statement.{statement}
+use Rattle.renamings.proofs.state.renamed_isrs.Tie as tie
 
 abbrev Inv-loop : tie.InvT-loop
-Inv-loop back names₀ isr₀ names isr = (isr ≤ 32) × (names ≡ splice 32 isr (renameIsr (nameIn back)) (nameIn names₀))
+Inv-loop back isrs₀ isr₀ isrs isr = (isr ≤ 32) × (isrs ≡ splice 32 isr (renameIsr (nameIn back)) (nameIn isrs₀))
 
 abbrev μ-loop : tie.MeasureT-loop
-μ-loop back names₀ isr₀ names isr = 32 - isr
+μ-loop back isrs₀ isr₀ isrs isr = 32 - isr
 
 loop-holds : tie.Need-loop-holds Inv-loop μ-loop
 loop-holds c = (omega arith, splice-start 0 32 (renameIsr (nameIn (c .args .back))) _ refl)
@@ -22,11 +22,11 @@ loop-holds c = (omega arith, splice-start 0 32 (renameIsr (nameIn (c .args .back
 rename-isr-requires : tie.Need-rename-isr-requires Inv-loop μ-loop
 rename-isr-requires c κs = search needs
 
-cast-names : tie.Need-cast-names Inv-loop μ-loop
-cast-names c = search needs
+cast-isrs : tie.Need-cast-isrs Inv-loop μ-loop
+cast-isrs c = search needs
 
-array-write-names : tie.Need-array-write-names Inv-loop μ-loop
-array-write-names c = search needs
+array-write-isrs : tie.Need-array-write-isrs Inv-loop μ-loop
+array-write-isrs c = search needs
 
 add-isr : tie.Need-add-isr Inv-loop μ-loop
 add-isr c = search needs
@@ -36,22 +36,22 @@ loop-less c = search needs
 
 loop-again : tie.Need-loop-again Inv-loop μ-loop
 loop-again c =
-    let at = c .before .before .loop in (omega arith, fill-turn (λ (l : List ℕ). l) (λ (l : List ℕ) (m : ℕ). set l (at .isr) m) 32 (at .isr) (renameIsr (nameIn (c .before .before .before .args .back))) _ (λ l. refl) (omega arith) (at .names) (c .rename-isr .result) (at .inv .1) (c .rename-isr .ensures))
+    let at = c .before .before .loop in (omega arith, fill-turn (λ (l : List ℕ). l) (λ (l : List ℕ) (m : ℕ). set l (at .isr) m) 32 (at .isr) (renameIsr (nameIn (c .before .before .before .args .back))) _ (λ l. refl) (omega arith) (at .isrs) (c .rename-isr .result) (at .inv .1) (c .rename-isr .ensures))
 
 returns : tie.Need-returns Inv-loop μ-loop
 returns c =
-    let at = c .before .loop in fill-end (λ (l : List ℕ). l) 32 (at .isr) (renameIsr (nameIn (c .before .before .args .back))) _ (omega arith) (omega arith) (at .names) (at .inv .1)
+    let at = c .before .loop in fill-end (λ (l : List ℕ). l) 32 (at .isr) (renameIsr (nameIn (c .before .before .args .back))) _ (omega arith) (omega arith) (at .isrs) (at .inv .1)
 
-pub isr-names-spec : {M : Type 1} → statement M
-isr-names-spec =
+pub renamed-isrs-spec : {M : Type 1} → statement M
+renamed-isrs-spec =
     tie.close
     (tie.spec
     Inv-loop
     μ-loop
     loop-holds
     rename-isr-requires
-    cast-names
-    array-write-names
+    cast-isrs
+    array-write-isrs
     add-isr
     loop-less
     loop-again
