@@ -1,5 +1,5 @@
 /* Judges the run of a file, then plays the same run action by action, and shows the representative of its last state. Exits 1
- * where the two do not agree. */
+ * where the two do not agree. Each of the ten functions is called. */
 #include "replay.h"
 #include <stdio.h>
 #include <string.h>
@@ -33,8 +33,20 @@ static int marked(size_t length, size_t at, uint8_t mark)
     return at + RECORD <= length && run[at] == 0x4B && run[at + 1] == mark;
 }
 
-/* How many actions are accepted, one call for each. */
-static unsigned long play(size_t length)
+/* Weak or strong ISR. */
+typedef uint8_t question(const uint8_t *state, size_t state_length, uint8_t *out, size_t out_length);
+
+/* How many actions were accepted when a property first failed: where that is known it stays. */
+static unsigned long failed(question *ask, unsigned long known, unsigned long accepted)
+{
+    uint8_t answer[REPLAY_ISR];
+    if (known != 0 || ask(state, sizeof state, answer, sizeof answer) != 0 || answer[0] == 1)
+        return known;
+    return accepted;
+}
+
+/* How many actions are accepted, one call for each, and when weak and strong ISR first failed. */
+static unsigned long play(size_t length, unsigned long *weak, unsigned long *strong)
 {
     unsigned long accepted = 0;
     size_t at = RECORD;
@@ -44,16 +56,40 @@ static unsigned long play(size_t length)
         && replay_act(state, sizeof state, run[at + 2], run[at + 3], run[at + 4], run[at + 5], next, sizeof next) == 0) {
         memcpy(state, next, sizeof state);
         accepted = accepted + 1;
+        *weak = failed(replay_weak, *weak, accepted);
+        *strong = failed(replay_strong, *strong, accepted);
         at = at + RECORD;
     }
     return accepted;
+}
+
+/* Whether the state comes back from its image, and from the renaming that leaves every name. */
+static int comes_back(void)
+{
+    static const uint8_t same[5] = { 0, 1, 2, 3, 4 };
+    uint32_t answer = replay_write_image(state, sizeof state, image, sizeof image);
+    return answer % 256 == 0
+        && replay_read_image(image, answer / 256, next, sizeof next) == 0 && memcmp(next, state, sizeof next) == 0
+        && replay_rename(state, sizeof state, same, sizeof same, next, sizeof next) == 0 && memcmp(next, state, sizeof next) == 0;
+}
+
+/* Whether each action that is offered is accepted. */
+static int offers_are_accepted(void)
+{
+    uint8_t action[REPLAY_OFFER];
+    for (uint8_t kind = 0; kind <= 8; kind++) {
+        if (replay_offer(state, sizeof state, kind, action, sizeof action) == 0
+            && replay_act(state, sizeof state, kind, action[0], action[1], action[2], next, sizeof next) != 0)
+            return 0;
+    }
+    return 1;
 }
 
 int main(int count, char **names)
 {
     FILE *file = count == 2 ? fopen(names[1], "rb") : NULL;
     size_t length;
-    unsigned long accepted;
+    unsigned long accepted, weak = 0, strong = 0;
     if (file == NULL) {
         fprintf(stderr, "usage: example FILE\n");
         return 2;
@@ -65,12 +101,14 @@ int main(int count, char **names)
     printf("accepted %lu\nrefusal %lu\nat %lu\n", number(0), number(1), number(2));
     printf("weak %lu\nstrong %lu\nexposed %lu\n", number(3), number(4), number(5));
     show("state", verdict + 24);
-    accepted = play(length);
-    if (accepted != number(0) || memcmp(state, verdict + 24, sizeof state) != 0) {
-        printf("the actions one by one give another state, after %lu\n", accepted);
+    accepted = play(length, &weak, &strong);
+    if (accepted != number(0) || weak != number(3) || strong != number(4) || memcmp(state, verdict + 24, sizeof state) != 0) {
+        printf("the actions one by one give another verdict, after %lu\n", accepted);
         return 1;
     }
-    if (replay_representative(state, sizeof state, next, sizeof next) == 0)
+    if (replay_representative(state, sizeof state, next, sizeof next) == 0) {
         show("representative", next);
+        return comes_back() && offers_are_accepted() ? 0 : 1;
+    }
     return 0;
 }
