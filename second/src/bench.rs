@@ -129,43 +129,36 @@ fn judged_line(name: &str, runs: &[Vec<u8>], size: usize) {
     ask_line(name, actions_in(runs), &parts(runs, size), judges);
 }
 
-/// Runs with large L, M and X, of 200 to 2,000 actions each, all accepted.
+/// So many runs, each of which must be accepted to its end.
+fn accepted_runs(count: usize, mut make: impl FnMut() -> Vec<u8>) -> Vec<Vec<u8>> {
+    (0..count).map(|_| accepted(make())).collect()
+}
+
+/// Runs with large L, M and X, of 200 to 2,000 actions each.
 fn mixed_runs(random: &mut Random, r: u8, count: usize) -> Vec<Vec<u8>> {
-    let mut runs = Vec::new();
-    for _ in 0..count {
+    accepted_runs(count, || {
         let (l, m, x) = (
             random.within(12, 16),
             random.within(48, 64),
             random.within(12, 15),
         );
         let actions = 200 + random.below(1_801);
-        runs.push(accepted(
-            course::accepted_run(random, [r, l, m, x], actions).run,
-        ));
-    }
-    runs
+        course::accepted_run(random, [r, l, m, x], actions).run
+    })
 }
 
-/// Runs of the greatest length, all accepted.
+/// Runs of the greatest length.
 fn longest_runs(random: &mut Random, r: u8, count: usize) -> Vec<Vec<u8>> {
-    let mut runs = Vec::new();
-    for _ in 0..count {
-        runs.push(accepted(
-            course::accepted_run(random, [r, 16, 64, 15], MOST_ACTIONS).run,
-        ));
-    }
-    runs
+    accepted_runs(count, || {
+        course::accepted_run(random, [r, 16, 64, 15], MOST_ACTIONS).run
+    })
 }
 
 /// Runs of the greatest length that change a leader's ISR, the same work at every length.
 fn changing_runs(random: &mut Random, r: u8, count: usize) -> Vec<Vec<u8>> {
-    let mut runs = Vec::new();
-    for _ in 0..count {
-        runs.push(accepted(
-            course::isr_changes_run(random, [r, 16, 64, 15], MOST_ACTIONS).run,
-        ));
-    }
-    runs
+    accepted_runs(count, || {
+        course::isr_changes_run(random, [r, 16, 64, 15], MOST_ACTIONS).run
+    })
 }
 
 /// The run, which must be accepted to its end.

@@ -9,9 +9,8 @@ use lib.ListN.{replicate}
 use Rattle.logic.specs.Concat.{concatBelow}
 use Rattle.logic.specs.Tests.{allBelow, all-fails, every, every-at, every-none, every-and, every-fails, and-left, and-right, and-true, bool-ext}
 use Rattle.logic.specs.Marks.{Passed, agreeAll, noteAll, passing-fails}
-use Rattle.replica.specs.declared.Replica.{Replica}
 use Rattle.replica.specs.Log.{logInUse}
-use Rattle.replica.specs.Marks.{logEntries, LogMet}
+use Rattle.replica.specs.Marks.{LogMet}
 use Rattle.cluster.specs.declared.State.{State}
 use Rattle.cluster.specs.State.{replicaCount, nextLeaderEpoch, nextRecordId, replicaIn}
 use Rattle.cluster.specs.Rules.{leaderAndIsrInRange, requestInRangeAt, replicaInRangeAt, rule1, rule2Tests, rule2, rule3, rule4, rule5, logInUseAt, rule6, rule7, ruleTests, rules}
@@ -96,11 +95,3 @@ module _ (s : State) where
       go false e =
           every-fails (passTests s) 2
           (sym (all-fails (replicaCount (s .limits)) i (logInUseAt (nextRecordId s) (nextLeaderEpoch s) (s .replicas)) h e))
-
--- what a log that does not fail says
-pub log-passes : (nextId nextEpoch : ℕ) (p : Replica) (seen last : List ℕ) → LogMet nextId nextEpoch p seen true last
-    → (logInUse nextId nextEpoch p ≡ true) × Passed seen (logEntries p) true last
-log-passes nextId nextEpoch p seen last m = (
-  and-left (logInUse nextId nextEpoch p) (agreeAll seen (logEntries p)) (sym (m .both)),
-  record { agree = sym (and-right (logInUse nextId nextEpoch p) (agreeAll seen (logEntries p)) (sym (m .both))); table = m .table refl },
-)

@@ -3,28 +3,28 @@
 use Prim.Native.Nat.{ℕ, zero, suc, _+_, _*_}
 use mathlib.Core.List.{List, [], _∷_}
 use lib.ListN.{drop, set, replicate}
-use Rattle.parts.specs.Refusal.{accepted, brokenState, tooShort, leftOver}
+use Rattle.parts.specs.Refusal.{accepted, leftOver}
 use Rattle.parts.specs.Mark.{byteAt}
 use Rattle.replica.specs.declared.Record.{Record}
 use Rattle.replica.specs.declared.Replica.{Replica}
 use Rattle.replica.specs.Replica.{zeroRecord, zeroReplica, withLog}
 use Rattle.cluster.specs.declared.Request.{Request}
 use Rattle.cluster.specs.declared.State.{State}
-use Rattle.cluster.specs.State.{zeroRequest}
+use Rattle.cluster.specs.State.{limitsOf, replicaCount, logSize, zeroRequest}
 use Rattle.images.specs.Image.{headerWidth, requestWidth, replicaWidth, recordWidth}
-use Rattle.images.specs.Read.{Parsed, missing, endAbove, parsed, andThen, fill, recordOf, requestOf, replicaOfHead, readReplica, readRequests, readReplicas, headerState, headerRefusal}
+use Rattle.images.specs.Read.{Parsed, missing, endAbove, parsed, refusalOf, andThen, fill, recordOf, requestOf, replicaOfHead, readReplica, readRequests, readReplicas, headerState, headerRefusal}
 
 -- ---- the first step: whether the parts are there
 -- "a missing part 21 and an end above L 1 as met; bytes left over 23"
 unfoldable pub wholeRefusal : {A : Type 0} → Parsed A → ℕ
-wholeRefusal missing = tooShort
-wholeRefusal endAbove = brokenState
+wholeRefusal {A} missing = refusalOf {A = A} missing
+wholeRefusal {A} endAbove = refusalOf {A = A} endAbove
 wholeRefusal (parsed x (b ∷ bs)) = leftOver
 wholeRefusal (parsed x []) = accepted
 
 -- the replicas, from a place of the image on
 abbrev pub replicasAt : List ℕ → ℕ → Parsed (List Replica)
-replicasAt bs at = fill (readReplica (byteAt bs 3)) (byteAt bs 2) (replicate 5 zeroReplica) (drop at bs)
+replicasAt bs at = fill (readReplica (logSize (limitsOf bs))) (replicaCount (limitsOf bs)) (replicate 5 zeroReplica) (drop at bs)
 
 -- the requests and the replicas
 abbrev pub bodyOf : List ℕ → Parsed State

@@ -131,7 +131,7 @@ module _ {A : Type 0} where
 
   -- the other way round
   whole-parsed : (m : Parsed A) → wholeRefusal m ≡ accepted → (x : A) × (m ≡ parsed x [])
-  unfolding wholeRefusal
+  unfolding wholeRefusal refusalOf
   whole-parsed missing h = absurd (omega arith)
   whole-parsed endAbove h = absurd (omega arith)
   whole-parsed (parsed x (b ∷ bs)) h = absurd (omega arith)
@@ -139,7 +139,7 @@ module _ {A : Type 0} where
 
   -- it is not the value that decides
   whole-put : {B : Type 0} (put : A → B) (m : Parsed A) → wholeRefusal (andThen m (λ x rest. parsed (put x) rest)) ≡ wholeRefusal m
-  unfolding wholeRefusal andThen
+  unfolding wholeRefusal refusalOf andThen
   whole-put put missing = refl
   whole-put put endAbove = refl
   whole-put put (parsed x []) = refl

@@ -1,13 +1,12 @@
 -- What the code of renamings works with: names, the constant of the table, the renamed ISRs as a table, and the old names as five
 -- numbers. Assumes nothing.
-use Prim.Native.Nat.{ℕ, zero, suc, _+_, _*_, _/_, _%_, _^_, _≤_, _<_}
+use Prim.Native.Nat.{ℕ, zero, suc, _+_, _*_, _%_, _≤_, _<_}
 use mathlib.Core.Path.{_≡_, refl, sym, ap, _∙_, fun-ext}
 use mathlib.Core.Bool.{true, false, not}
 use mathlib.Core.List.{List, [], _∷_, map}
 use native.Mathlib.Numerals.{add-one}
 use native.Mathlib.Omega.{arith}
 use native.Mathlib.Nat.{add-zero, mod-lt}
-use native.Mathlib.Decide.{decLt}
 use lib.Dec.{eqb, ltb}
 use borrow.Author.Tests.{lt-ltb, le-ltb, eq-eqb, ne-eqb}
 use lib.ListN.{length, getD, set, length-set}
@@ -15,8 +14,8 @@ use Rattle.logic.specs.Concat.{concatBelow}
 use Rattle.logic.specs.Maps.{map-table}
 use Rattle.logic.specs.Table.{table, tableFrom, length-table, getD-table, ext-table, table-cong}
 use Rattle.logic.specs.Lists.{each-set}
-use Rattle.parts.specs.Isr.{member, bit}
-use Rattle.parts.specs.IsrLaws.{below-five, isrOf-cong, member-low, member-past}
+use Rattle.parts.specs.Isr.{member}
+use Rattle.parts.specs.IsrLaws.{below-five, isrOf-cong, member-rest}
 use Rattle.replica.specs.declared.Replica.{Replica}
 use Rattle.cluster.specs.declared.Request.{Request}
 use Rattle.cluster.specs.declared.State.{State}
@@ -90,28 +89,7 @@ five-numbers k h =
     let first : getD tableNumbers (5 * k) 0 ≡ getD (row k) 0 0 = ap (λ (i : ℕ). getD tableNumbers i 0) (sym (add-zero (5 * k))) ∙ numbers-at k 0 h (omega arith) in
     rw (first, numbers-at k 1 h (omega arith), numbers-at k 2 h (omega arith), numbers-at k 3 h (omega arith), numbers-at k 4 h (omega arith)) (sym (row-numbers k h))
 
--- ---- a member of an ISR as a bit
-pub member-bit : (isr i : ℕ) → i < 5 → isr / 2 ^ i % 2 ≡ bit (member isr i)
-member-bit isr i h = rw (member-low isr i h) (go (isr / 2 ^ i % 2) (mod-lt (isr / 2 ^ i) (omega arith)))
-  where
-    go : (r : ℕ) → r < 2 → r ≡ bit (eqb r 1)
-    go zero l = refl
-    go (suc zero) l = refl
-    go (suc (suc r)) l = absurd (omega arith)
-
 -- ---- the renamed ISRs as a table
--- an ISR has no other members than 0 to 4, so its remainder by 32 has the same
-member-rest : (isr i : ℕ) → member (isr % 32) i ≡ member isr i
-member-rest isr i =
-    elim (decLt i 5) [
-      | yes h ↦ member-low (isr % 32) i h ∙ ap (λ (r : ℕ). eqb r 1) (digit i h) ∙ sym (member-low isr i h)
-      | no h ↦ member-past (isr % 32) i (omega arith) ∙ sym (member-past isr i (omega arith))
-    ]
-  where
-    digit : (k : ℕ) → k < 5 → isr % 32 / 2 ^ k % 2 ≡ isr / 2 ^ k % 2
-    digit =
-        below-five (λ (k : ℕ). isr % 32 / 2 ^ k % 2 ≡ isr / 2 ^ k % 2) (omega arith) (omega arith) (omega arith) (omega arith) (omega arith)
-
 -- what the table of all renamed ISRs holds for an ISR
 pub isr-named : (from : ℕ → ℕ) (isrs : List ℕ) (isr : ℕ) → isrs ≡ table 32 (renameIsr from) → getD isrs (isr % 32) 0 ≡ renameIsr from isr
 unfolding renameIsr

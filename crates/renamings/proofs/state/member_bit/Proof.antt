@@ -1,6 +1,6 @@
 use native.Mathlib.Omega.{arith}
 use borrow.Author.Needs.{needs}
-use Rattle.renamings.specs.CodeLaws.{member-bit}
+use Rattle.parts.specs.IsrLaws.{member-bit}
 use Rattle.renamings.proofs.state.member_bit.Statement.{statement}
 use Rattle.renamings.proofs.state.member_bit.Tie as tie
 
