@@ -22,6 +22,9 @@ const REPLICA_WIDTH: usize = 5;
 
 const RECORD_WIDTH: usize = 2;
 
+// Where a replica's end stands among its bytes.
+const END_PLACE: usize = 4;
+
 // The most bytes that an image has.
 pub const LONGEST: usize = 227;
 

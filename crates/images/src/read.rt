@@ -10,6 +10,7 @@ ghost use Rattle.parts.specs.Mark.{byteAt};
 ghost use Rattle.images.specs.Image.{headerWidth, requestWidth, replicaWidth, recordWidth};
 ghost use Rattle.images.specs.Read.{parsed, refusalOf, recordOf, requestOf, replicaOfHead, readReplica, headerRefusal, refused};
 ghost use Rattle.images.specs.Layout.{wholeRefusal, replicasAt, bodyOf, layoutRefusal, recordsOf, requestsOf, replicaLength, replicaWithLog};
+use crate::END_PLACE;
 use crate::HEADER_WIDTH;
 use crate::MARK_SECOND;
 use crate::RECORD_WIDTH;
@@ -105,7 +106,7 @@ fn replica_of_head(bytes: &[u8], at: usize) -> Replica
         epoch: epoch,
         leader: leader,
         isr: bytes[at + 3],
-        end: bytes[at + 4],
+        end: bytes[at + END_PLACE],
         log: log,
     }
 }
@@ -131,7 +132,7 @@ fn replica_refusal(bytes: &[u8], at: usize, log_size: u8) -> u8
     if bytes.len() - at < REPLICA_WIDTH {
         return TOO_SHORT;
     }
-    let end = bytes[at + 4];
+    let end = bytes[at + END_PLACE];
     if log_size < end {
         return BROKEN_STATE;
     }
@@ -157,7 +158,7 @@ fn replicas_refusal(bytes: &[u8], at: usize) -> u8
         if refusal != ACCEPTED {
             return refusal;
         }
-        pos = pos + REPLICA_WIDTH + RECORD_WIDTH * (bytes[pos + 4] as usize);
+        pos = pos + REPLICA_WIDTH + RECORD_WIDTH * (bytes[pos + END_PLACE] as usize);
         i = i + 1;
     }
     if pos < bytes.len() {

@@ -10,6 +10,7 @@ ghost use Rattle.logic.specs.Concat.{concatBelow};
 ghost use Rattle.logic.specs.Stores.{Stored};
 ghost use Rattle.images.specs.Image.{recordBytes, recordBytesAt, requestBytes, replicaHeadBy, replicaBytes, replicasBytes, headerBytes, image};
 ghost use Rattle.images.specs.WriteLaws.{requestBytesIn};
+use crate::END_PLACE;
 use crate::HEADER_WIDTH;
 use crate::MARK_SECOND;
 use crate::RECORD_WIDTH;
@@ -91,7 +92,7 @@ pub fn put_head(out: &mut [u8], at: usize, p: Replica, leader: u8) -> usize
     out[at + 1] = epoch;
     out[at + 2] = leader;
     out[at + 3] = p.isr;
-    out[at + 4] = p.end;
+    out[at + END_PLACE] = p.end;
     at + REPLICA_WIDTH
 }
 
