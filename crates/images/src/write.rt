@@ -150,7 +150,7 @@ fn put_header(out: &mut [u8], s: State) -> usize
 
 // The image of a state, at the front of the buffer. The caller shows that the state meets the rules, and that the buffer has
 // room for its image.
-pub fn put_image(out: &mut [u8], s: State) -> usize
+pub(crate) fn put_image(out: &mut [u8], s: State) -> usize
     requires { ⌜ rules s ≡ true ⌝ }
     requires { ⌜ length (image s) ≤ length (now out) ⌝ }
     ensures { λ n. ⌜ Stored (now (out .entry)) 0 (image s) (now (out .exit)) n ⌝ }

@@ -1,37 +1,40 @@
--- What the code of renamings works with: names, the constant of the table, the renamed ISRs as a table, and the old names as five
--- numbers. Assumes nothing.
-use Prim.Native.Nat.{ℕ, zero, suc, _+_, _*_, _%_, _≤_, _<_}
-use mathlib.Core.Path.{_≡_, refl, sym, ap, _∙_, fun-ext}
-use mathlib.Core.Bool.{true, false, not}
+-- What the code of renamings works with: names, the constant of the table, the renamed ISR by new names, the renamed ISRs as a
+-- table, the old names as five numbers, and the renaming that leaves a state. Assumes nothing.
+use Prim.Native.Nat.{ℕ, zero, suc, _+_, _*_, _^_, _/_, _%_, _≤_, _<_}
+use mathlib.Core.Path.{_≡_, refl, sym, ap, ap₂, _∙_, fun-ext}
+use mathlib.Core.Bool.{Bool, true, false, not, _&&_}
 use mathlib.Core.List.{List, [], _∷_, map}
 use native.Mathlib.Numerals.{add-one}
 use native.Mathlib.Omega.{arith}
-use native.Mathlib.Nat.{add-zero, mod-lt}
+use native.Mathlib.Nat.{mod-lt}
 use lib.Dec.{eqb, ltb}
-use borrow.Author.Tests.{lt-ltb, le-ltb, eq-eqb, ne-eqb}
+use borrow.Author.Tests.{lt-ltb, le-ltb, eq-eqb, ne-eqb, eqb-true, ltb-true}
 use lib.ListN.{length, getD, set, length-set}
+use Rattle.logic.specs.Tests.{allBelow, all-at, and-left, and-right}
 use Rattle.logic.specs.Concat.{concatBelow}
 use Rattle.logic.specs.Maps.{map-table}
 use Rattle.logic.specs.Table.{table, tableFrom, length-table, getD-table, ext-table, table-cong}
 use Rattle.logic.specs.Lists.{each-set}
-use Rattle.parts.specs.Isr.{member}
-use Rattle.parts.specs.IsrLaws.{below-five, isrOf-cong, member-rest}
-use Rattle.replica.specs.declared.Replica.{Replica}
+use Rattle.parts.specs.Isr.{member, bit, isrOf}
+use Rattle.parts.specs.IsrLaws.{below-five, isrOf-cong, member-bit, member-rest}
 use Rattle.cluster.specs.declared.Request.{Request}
 use Rattle.cluster.specs.declared.State.{State}
 use Rattle.logic.specs.Refuse.{refuse-yes, refuse-no, refuse-none}
 use Rattle.parts.specs.Refusal.{accepted, brokenState, notRenaming}
-use Rattle.cluster.specs.State.{replicaCount, nextLeaderEpoch, nextRecordId, zeroRequest, requestIn, replicaIn, stateOf}
+use Rattle.cluster.specs.State.{replicaCount, nextLeaderEpoch, nextRecordId, zeroRequest, requestIn, stateOf}
 use Rattle.cluster.specs.Rules.{rules, stateRefusal}
-use Rattle.cluster.specs.RuleLaws.{refusal-broken}
+use Rattle.cluster.specs.RuleLaws.{refusal-broken, rules-bounded}
 use Rattle.cluster.specs.Fresh.{answer}
 use Rattle.cluster.specs.Act.{answerBy}
 use Rattle.cluster.specs.ActLaws.{answer-zero, answer-other}
 use Rattle.cluster.specs.Equality.{state-path}
 use Rattle.renamings.specs.Names.{newName, holder, oldName, inverted, nameIn, Inward, inPlace, isRenaming, withoutPlace, orders, rows, row, tableNumbers}
-use Rattle.renamings.specs.Rename.{renameLeader, renameIsr, renamedRequestAt, renameQuorum, renameRequest, renameReplica, renamedReplicaAt, renameReplicas, renameState, renamed, Renames, renameRefusal, rename}
+use Rattle.renamings.specs.Rename.{renameLeader, renameIsr, renamedRequestAt, renameQuorum, renameRequest, renameReplicas, renameState, renamed, Renames, renameRefusal, rename}
 use Rattle.renamings.specs.Renaming.{to-below, from-below}
-use Rattle.renamings.specs.Rows.{keepsPlace, rows-count, renamingOf, row-numbers}
+use Rattle.renamings.specs.Rows.{five, rows-count, row-renaming, row-number, distinct-of, old-name-five, renamingOf}
+use Rattle.renamings.specs.Places.{renaming-five}
+use Rattle.renamings.specs.RulesRenamed.{Fits}
+use Rattle.renamings.specs.Group.{rename-same}
 
 -- ---- names
 pub new-name-place : (p : List ℕ) (i : ℕ) → i < 5 → getD p i 0 ≡ newName p i
@@ -45,10 +48,6 @@ in-place-low n p i h = rw (lt-ltb i n h) refl
 pub in-place-high : (n : ℕ) (p : List ℕ) (i : ℕ) → n ≤ i → eqb (newName p i) i ≡ inPlace n p i
 unfolding inPlace
 in-place-high n p i h = rw (le-ltb i n h) refl
-
--- a place from n on that holds another number is not left
-pub keeps-no : (n : ℕ) (p : List ℕ) (i : ℕ) → n ≤ i → (newName p i ≡ i → ⊥) → keepsPlace n p i ≡ false
-keeps-no n p i h e = rw (le-ltb i n h) (ne-eqb (newName p i) i e)
 
 -- ---- the constant of 600 numbers
 -- five numbers to a row
@@ -78,16 +77,85 @@ numbers-rows : rowsOf tableNumbers ≡ rows
 unfolding rowsOf tableNumbers rows orders withoutPlace concatBelow
 numbers-rows = refl
 
-numbers-at : (k j : ℕ) → k < 120 → j < 5 → getD tableNumbers (5 * k + j) 0 ≡ getD (row k) j 0
+pub numbers-at : (k j : ℕ) → k < 120 → j < 5 → getD tableNumbers (5 * k + j) 0 ≡ getD (row k) j 0
 numbers-at k j h i =
     rows-at tableNumbers k j (omega (arith, ap (λ (r : List (List ℕ)). length r) numbers-rows, rows-count)) i
     ∙ ap (λ (r : List (List ℕ)). getD (getD r k []) j 0) numbers-rows
 
-pub five-numbers : (k : ℕ) → k < 120
-    → getD tableNumbers (5 * k) 0 ∷ getD tableNumbers (5 * k + 1) 0 ∷ getD tableNumbers (5 * k + 2) 0 ∷ getD tableNumbers (5 * k + 3) 0 ∷ getD tableNumbers (5 * k + 4) 0 ∷ [] ≡ row k
-five-numbers k h =
-    let first : getD tableNumbers (5 * k) 0 ≡ getD (row k) 0 0 = ap (λ (i : ℕ). getD tableNumbers i 0) (sym (add-zero (5 * k))) ∙ numbers-at k 0 h (omega arith) in
-    rw (first, numbers-at k 1 h (omega arith), numbers-at k 2 h (omega arith), numbers-at k 3 h (omega arith), numbers-at k 4 h (omega arith)) (sym (row-numbers k h))
+-- ---- a renaming of n replicas is one of five places
+renaming-wide : (n : ℕ) (p : List ℕ) → n ≤ 5 → isRenaming n p ≡ true → isRenaming 5 p ≡ true
+renaming-wide n p small f =
+    let x = row-number n small p (distinct-of n p f) in
+    sym (ap (isRenaming 5) (x .2) ∙ renaming-five 5 p) ∙ row-renaming (x .0) (x .1)
+
+pub renames-wide : (s : State) → rules s ≡ true → (p : List ℕ) → Renames s p → isRenaming 5 p ≡ true
+renames-wide s h p f = renaming-wide (replicaCount (s .limits)) p (rules-bounded s h .replicas) f
+
+-- ---- the renamed ISR by new names
+-- what replica i adds: the bit of its new name, where it is a member
+abbrev pub namedBit : ℕ → ℕ → ℕ → ℕ
+namedBit isr i name = bit (member isr i) * 2 ^ name
+
+-- it fits a byte, and five of them do
+bitTest : Bool → ℕ → Bool
+bitTest b name = eqb (bit b * 2 ^ name % 256) (bit b * 2 ^ name) && ltb (bit b * 2 ^ name) 17
+
+bits-right : (b : Bool) → allBelow 5 (bitTest b) ≡ true
+unfolding allBelow bitTest
+bits-right true = refl
+bits-right false = refl
+
+pub named-bit : (isr i name : ℕ) → i < 5 → name < 5 → (isr / 2 ^ i % 2 * 2 ^ name % 256 ≡ namedBit isr i name) × (namedBit isr i name ≤ 16)
+unfolding bitTest
+named-bit isr i name h l =
+    let v = namedBit isr i name in
+    let t = all-at 5 (bitTest (member isr i)) (bits-right (member isr i)) name l in
+    let low : v < 17 = ltb-true v 17 (and-right (eqb (v % 256) v) (ltb v 17) t) in
+    (ap (λ (r : ℕ). r * 2 ^ name % 256) (member-bit isr i h) ∙ eqb-true (v % 256) v (and-left (eqb (v % 256) v) (ltb v 17) t), omega arith)
+
+-- what the five replicas add
+unfoldable pub isrByNames : List ℕ → ℕ → ℕ
+isrByNames p isr =
+    namedBit isr 0 (getD p 0 0)
+    + namedBit isr 1 (getD p 1 0)
+    + namedBit isr 2 (getD p 2 0)
+    + namedBit isr 3 (getD p 3 0)
+    + namedBit isr 4 (getD p 4 0)
+
+-- of each row and each ISR it is the renamed ISR
+abbrev isrTest : ℕ → ℕ → Bool
+isrTest k m = eqb (isrByNames (row k) m) (renameIsr (oldName (row k)) m)
+
+isr-right : allBelow 120 (λ k. allBelow 32 (isrTest k)) ≡ true
+unfolding allBelow concatBelow newName holder oldName withoutPlace orders rows member isrOf renameIsr isrByNames
+isr-right = refl
+
+-- an ISR's remainder by 32 has the same members
+rest-named : (p : List ℕ) (isr : ℕ) → isrByNames p (isr % 32) ≡ isrByNames p isr
+unfolding isrByNames
+rest-named p isr = rw (member-rest isr 0, member-rest isr 1, member-rest isr 2, member-rest isr 3, member-rest isr 4) refl
+
+rest-renamed : (from : ℕ → ℕ) (isr : ℕ) → renameIsr from (isr % 32) ≡ renameIsr from isr
+unfolding renameIsr
+rest-renamed from isr = isrOf-cong (λ j. member (isr % 32) (from j)) (λ j. member isr (from j)) (λ j h. member-rest isr (from j))
+
+-- so it is of every renaming and every ISR
+pub isr-by-names : (p : List ℕ) → isRenaming 5 p ≡ true → (isr : ℕ) → isrByNames p isr ≡ renameIsr (oldName p) isr
+isr-by-names p f isr =
+    let x = row-number 5 (omega arith) p (distinct-of 5 p f) in
+    let m = isr % 32 in
+    let e : isrByNames (row (x .0)) m ≡ renameIsr (oldName (row (x .0))) m =
+    eqb-true _ _ (all-at 32 (isrTest (x .0)) (all-at 120 (λ (k : ℕ). allBelow 32 (isrTest k)) isr-right (x .0) (x .1)) m (mod-lt isr (omega arith))) in
+    sym (rest-named p isr)
+    ∙ by-five m
+    ∙ ap (λ (q : List ℕ). isrByNames q m) (sym (x .2))
+    ∙ e
+    ∙ ap (λ (q : List ℕ). renameIsr (oldName q) m) (x .2)
+    ∙ ap (λ (from : ℕ → ℕ). renameIsr from m) (fun-ext (old-name-five p))
+    ∙ rest-renamed (oldName p) isr
+  where
+    by-five : (m : ℕ) → isrByNames p m ≡ isrByNames (five p) m
+    by-five m = unfold isrByNames in refl
 
 -- ---- the renamed ISRs as a table
 -- what the table of all renamed ISRs holds for an ISR
@@ -95,8 +163,7 @@ pub isr-named : (from : ℕ → ℕ) (isrs : List ℕ) (isr : ℕ) → isrs ≡ 
 unfolding renameIsr
 isr-named from isrs isr e =
     rw e
-    (getD-table 32 (renameIsr from) (isr % 32) 0 (mod-lt isr (omega arith))
-    ∙ isrOf-cong (λ j. member (isr % 32) (from j)) (λ j. member isr (from j)) (λ j h. member-rest isr (from j)))
+    (getD-table 32 (renameIsr from) (isr % 32) 0 (mod-lt isr (omega arith)) ∙ rest-renamed from isr)
 
 -- request e of these, with its ISR looked up in such a table
 abbrev pub requestLookedUp : List ℕ → List ℕ → List Request → ℕ → Request
@@ -143,43 +210,35 @@ both-inward n p small f = (
   (λ j h. rw (inverted-at p j h) (from-below (renamingOf n small p f) 5 small j h)),
 )
 
--- ---- a renaming reads its inverse below five alone
-module _ (to f g : ℕ → ℕ) (e : (j : ℕ) → j < 5 → f j ≡ g j) where
-  isr-cong : (isr : ℕ) → renameIsr f isr ≡ renameIsr g isr
-  unfolding renameIsr
-  isr-cong isr = isrOf-cong (λ j. member isr (f j)) (λ j. member isr (g j)) (λ j h. ap (member isr) (e j h))
+-- what code reads of the inverse: the old names, below five
+module _ (p back : List ℕ) (f : isRenaming 5 p ≡ true) (e : back ≡ inverted p) (j : ℕ) (h : j < 5) where
+  pub back-old : nameIn back j ≡ oldName p j
+  back-old = ap (λ (l : List ℕ). nameIn l j) e ∙ inverted-at p j h
 
-  replica-cong : (r : Replica) → renameReplica to f r ≡ renameReplica to g r
-  replica-cong r = rw (isr-cong (r .isr)) refl
+  pub back-below : nameIn back j < 5
+  back-below = rw e (both-inward 5 p (omega arith) f .1 j h)
 
-  request-cong : (r : Request) → renameRequest to f r ≡ renameRequest to g r
-  request-cong r = rw (isr-cong (r .isr)) refl
+-- ---- a renaming of no replicas leaves the state
+pub leaves-state : (p : List ℕ) (s : State) → isRenaming 0 p ≡ true → Fits s → s ≡ renameState (newName p) (oldName p) s
+leaves-state p s f fit =
+    let r = renamingOf 0 (omega arith) p f in
+    let to : newName p ≡ (λ i. i) = fun-ext (λ (i : ℕ). r .keeps i (omega arith)) in
+    let from : oldName p ≡ (λ i. i) = fun-ext (λ (j : ℕ). ap (oldName p) (sym (r .keeps j (omega arith))) ∙ r .from-to j) in
+    sym (ap₂ (λ (t u : ℕ → ℕ). renameState t u s) to from ∙ rename-same s fit)
 
-  rename-cong : (s : State) → renameState to f s ≡ renameState to g s
-  unfolding renameReplicas
-  rename-cong s =
-      state-path refl refl refl (rw (isr-cong (s .quorum .isr)) refl)
-      (ap (λ (h : Request → Request). map h (s .requests)) (fun-ext request-cong))
-      (table-cong 5 (renamedReplicaAt to f (s .replicas)) (renamedReplicaAt to g (s .replicas))
-      (λ j h. rw (e j h) (replica-cong (replicaIn (s .replicas) (g j)))))
-
-by-inverse : (p : List ℕ) (s : State) → renameState (newName p) (nameIn (inverted p)) s ≡ renameState (newName p) (oldName p) s
-by-inverse p s = rename-cong (newName p) (nameIn (inverted p)) (oldName p) (inverted-at p) s
-
+-- ---- the parts of the code together
 -- the requests, one by one
 requests-by : (to from : ℕ → ℕ) (requests : List Request) → length requests ≡ 16
     → table 16 (renamedRequestAt to from requests) ≡ map (renameRequest to from) requests
 requests-by to from requests l =
     sym (map-table zeroRequest 16 (renameRequest to from) requests (renamedRequestAt to from requests) l (λ e h. refl))
 
--- the parts of the code together
 pub state-by : (p : List ℕ) (s : State) → length (s .requests) ≡ 16
-    → stateOf (s .limits) (nextLeaderEpoch s) (nextRecordId s) (renameQuorum (newName p) (nameIn (inverted p)) (s .quorum))
-    (table 16 (renamedRequestAt (newName p) (nameIn (inverted p)) (s .requests)))
-    (renameReplicas (newName p) (nameIn (inverted p)) (s .replicas))
+    → stateOf (s .limits) (nextLeaderEpoch s) (nextRecordId s) (renameQuorum (newName p) (oldName p) (s .quorum))
+    (table 16 (renamedRequestAt (newName p) (oldName p) (s .requests)))
+    (renameReplicas (newName p) (oldName p) (s .replicas))
     ≡ renameState (newName p) (oldName p) s
-state-by p s l =
-    state-path refl refl refl refl (requests-by (newName p) (nameIn (inverted p)) (s .requests) l) refl ∙ by-inverse p s
+state-by p s l = state-path refl refl refl refl (requests-by (newName p) (oldName p) (s .requests) l) refl
 
 -- ---- what renaming answers
 pub rename-broken : (s : State) (p : List ℕ) → (stateRefusal s ≡ accepted → ⊥) → answer (stateRefusal s) s ≡ rename s p

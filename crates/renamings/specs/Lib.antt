@@ -13,3 +13,4 @@ pub mod Places
 pub mod RenameTheorems
 pub mod FreshRenamed
 pub mod CodeLaws
+pub mod Fitting

@@ -47,11 +47,17 @@ module _ (to from : ℕ → ℕ) where
   zero-request-renamed = rw (empty-renamed from)
 
   -- a request of the renamed state
-  request-in-renamed : (requests : List Request) (e : ℕ)
+  pub request-in-renamed : (requests : List Request) (e : ℕ)
       → requestIn (map (renameRequest to from) requests) e ≡ renameRequest to from (requestIn requests e)
   request-in-renamed requests e =
       ap (getD (map (renameRequest to from) requests) e) (sym zero-request-renamed)
       ∙ List·getD-map (renameRequest to from) requests e zeroRequest
+
+  -- a replica of it, below five
+  pub replica-in-old : (replicas : List Replica) (j : ℕ) → j < 5
+      → replicaIn (renameReplicas to from replicas) j ≡ renamedReplicaAt to from replicas j
+  unfolding renameReplicas
+  replica-in-old replicas j h = getD-table 5 (renamedReplicaAt to from replicas) j noReplica h
 
 module _ {n : ℕ} (p : Renaming n) (five : n ≤ 5) where
   -- ---- ISRs

@@ -1,20 +1,20 @@
 -- The 120 rows of the table: one test that is computed shows that each is a renaming of five places, that they rise, so that no
 -- row stands twice, and that every renaming is a row. From it, each list of five places that passes the test of a renaming
 -- of n replicas is a renaming: it has an inverse. Assumes nothing.
-use Prim.Native.Nat.{ℕ, zero, suc, _+_, _*_, _-_, _≤_, _<_}
-use mathlib.Core.Path.{_≡_, refl, sym, ap, ap₂, _∙_, subst}
+use Prim.Native.Nat.{ℕ, suc, _+_, _*_, _-_, _≤_, _<_}
+use mathlib.Core.Path.{_≡_, refl, sym, ap, _∙_, subst}
 use mathlib.Core.Bool.{Bool, true, false, not, _&&_, _||_, cond}
 use mathlib.Core.List.{List, [], _∷_}
 use native.Mathlib.Omega.{arith}
-use native.Mathlib.Decide.{decLt, ℕ-discrete}
+use native.Mathlib.Decide.{decLt}
 use lib.Dec.{eqb, ltb}
 use lib.ListN.{length, getD, List·getD-eq-default}
 use borrow.Author.Tests.{eq-eqb, eqb-false, eqb-true, ltb-true, lt-ltb, le-ltb, ne-eqb, not-true}
-use Rattle.logic.specs.Tests.{allBelow, all-at, all-by, and-true, bool-ext, every, every-at, and-left, and-right, true-false}
+use Rattle.logic.specs.Tests.{allBelow, all-at, all-by, and-true, every, every-at, and-left, and-right, sameBy, same-by}
 use Rattle.logic.specs.Concat.{concatBelow}
 use Rattle.parts.specs.IsrLaws.{below-five}
 use Rattle.renamings.specs.Names.{newName, holder, oldName, inPlace, otherThan, isNew, placeFits, isRenaming, withoutPlace, orders, rows, row}
-use Rattle.logic.specs.Order.{precedes, precedes-irreflexive, precedes-transitive}
+use Rattle.logic.specs.Order.{precedes, all-rise, none-twice}
 use Rattle.renamings.specs.Renaming.{Renaming}
 
 -- ---- the test of the table
@@ -26,15 +26,12 @@ comesBack p i = eqb (newName p (oldName p i)) i && eqb (oldName p (newName p i))
 abbrev pub five : List ℕ → List ℕ
 five p = getD p 0 0 ∷ getD p 1 0 ∷ getD p 2 0 ∷ getD p 3 0 ∷ getD p 4 0 ∷ []
 
-sameNumbers : List ℕ → List ℕ → Bool
-sameNumbers [] [] = true
-sameNumbers [] (y ∷ ys) = false
-sameNumbers (x ∷ xs) [] = false
-sameNumbers (x ∷ xs) (y ∷ ys) = eqb x y && sameNumbers xs ys
+abbrev pub sameNumbers : List ℕ → List ℕ → Bool
+sameNumbers = sameBy eqb
 
--- row k is a renaming of five places, has an inverse, and has five numbers
+-- row k is a renaming of five places, and has an inverse
 abbrev rowTests : ℕ → List Bool
-rowTests k = isRenaming 5 (row k) ∷ allBelow 5 (comesBack (row k)) ∷ sameNumbers (row k) (five (row k)) ∷ []
+rowTests k = isRenaming 5 (row k) ∷ allBelow 5 (comesBack (row k)) ∷ []
 
 abbrev rowTest : ℕ → Bool
 rowTest k = every (rowTests k)
@@ -42,10 +39,6 @@ rowTest k = every (rowTests k)
 -- row k comes before the next
 abbrev rises : ℕ → Bool
 rises k = precedes (row k) (row (suc k))
-
--- place i, where it is not below n, holds its own number
-abbrev pub keepsPlace : ℕ → List ℕ → ℕ → Bool
-keepsPlace n p i = ltb i n || eqb (newName p i) i
 
 -- 1 where x is smaller than y, else 0
 less : ℕ → ℕ → ℕ
@@ -84,7 +77,7 @@ tableTests =
 
 table-right : every tableTests ≡ true
 unfolding every allBelow concatBelow newName holder oldName inPlace isNew isRenaming withoutPlace orders rows precedes
-    less rank sameNumbers complete
+    less rank sameBy complete
 table-right = refl
 
 right : (k : ℕ) → getD tableTests k true ≡ true
@@ -102,16 +95,10 @@ next-rises : (k : ℕ) → suc k < 120 → precedes (row k) (row (suc k)) ≡ tr
 next-rises k h = all-at 119 rises (right 1) k (omega arith)
 
 pub rows-rise : (i j : ℕ) → i < j → j < 120 → precedes (row i) (row j) ≡ true
-rows-rise i zero h l = absurd (omega arith)
-rows-rise i (suc j) h l =
-    elim (ℕ-discrete i j) [
-      | yes e ↦ rw e (next-rises j l)
-      | no e ↦ precedes-transitive (row i) (row j) (row (suc j)) (rows-rise i j (omega arith) (omega arith)) (next-rises j l)
-    ]
+rows-rise = all-rise 120 row next-rises
 
 pub no-row-twice : (i j : ℕ) → i < j → j < 120 → row i ≡ row j → ⊥
-no-row-twice i j h l e =
-    true-false (sym (rows-rise i j h l) ∙ ap (λ (r : List ℕ). precedes r (row j)) e ∙ precedes-irreflexive (row j))
+no-row-twice = none-twice 120 row next-rises
 
 -- ---- what the test of five places says, each way
 pub record Distinct (n : ℕ) (p : List ℕ) : Type 0 where
@@ -143,63 +130,14 @@ module _ (n : ℕ) (p : List ℕ) where
       held i h (yes b) = rw (lt-ltb i n b) (lt-ltb (newName p i) n (d .within i b h))
       held i h (no b) = rw (le-ltb i n (omega arith)) (eq-eqb (newName p i) i (d .others i (omega arith) h))
 
--- ---- for n replicas, a row that leaves each place from n on is a renaming, and no other row is
-pub keeps-own : (n : ℕ) (p : List ℕ) (i : ℕ) → newName p i ≡ i → keepsPlace n p i ≡ true
-keeps-own n p i e = rw (eq-eqb (newName p i) i e) (go (ltb i n))
-  where
-    go : (b : Bool) → b || true ≡ true
-    go true = refl
-    go false = refl
-
-pub row-fits : (n k : ℕ) → n ≤ 5 → k < 120 → isRenaming n (row k) ≡ allBelow 5 (keepsPlace n (row k))
-row-fits n k small l =
-    bool-ext (isRenaming n (row k)) (allBelow 5 (keepsPlace n (row k)))
-    (λ e. all-by 5 (keepsPlace n (row k)) (λ i h. there (distinct-of n (row k) e) i h (decLt i n)))
-    (λ e.
-    distinct-by n (row k)
-    (record {
-      within = λ i b h. back e i b h (decLt (newName (row k) i) n);
-      others = λ i b h. own e i b h;
-      apart = all .apart;
-    }))
-  where
-    all : Distinct 5 (row k)
-    all = distinct-of 5 (row k) (row-renaming k l)
-
-    there : Distinct n (row k) → (i : ℕ) → i < 5 → Dec (i < n) → keepsPlace n (row k) i ≡ true
-    there d i h (yes b) = rw (lt-ltb i n b) refl
-    there d i h (no b) = keeps-own n (row k) i (d .others i (omega arith) h)
-
-    own : allBelow 5 (keepsPlace n (row k)) ≡ true → (i : ℕ) → n ≤ i → i < 5 → newName (row k) i ≡ i
-    own e i b h = eqb-true (newName (row k) i) i (rw (le-ltb i n b) at (all-at 5 (keepsPlace n (row k)) e i h))
-
-    back : allBelow 5 (keepsPlace n (row k)) ≡ true → (i : ℕ) → i < n → i < 5 → Dec (newName (row k) i < n) → newName (row k) i < n
-    back e i b h (yes d) = d
-    back e i b h (no d) =
-        let j : newName (row k) i < 5 = all .within i h h in
-        absurd (all .apart (newName (row k) i) i j (omega arith) (own e (newName (row k) i) (omega arith) j))
-
--- the first row leaves every place, so it is a renaming of any number of replicas
-first-names : (i : ℕ) → i < 5 → newName (row 0) i ≡ i
-unfolding concatBelow newName withoutPlace orders rows
-first-names = below-five (λ (i : ℕ). newName (row 0) i ≡ i) refl refl refl refl refl
-
+-- ---- the first row leaves every place, so it is a renaming of any number of replicas
 pub first-row : (n : ℕ) → n ≤ 5 → isRenaming n (row 0) ≡ true
-first-row n small =
-    row-fits n 0 small (omega arith) ∙ all-by 5 (keepsPlace n (row 0)) (λ i h. keeps-own n (row 0) i (first-names i h))
+unfolding allBelow concatBelow newName inPlace isNew isRenaming withoutPlace orders rows
+first-row n small = all-at 6 (λ (n : ℕ). isRenaming n (row 0)) refl n (omega arith)
 
 -- ---- every renaming is a row
-same-numbers : (xs ys : List ℕ) → sameNumbers xs ys ≡ true → xs ≡ ys
-unfolding sameNumbers
-same-numbers [] [] e = refl
-same-numbers [] (y ∷ ys) e = absurd (true-false (sym e))
-same-numbers (x ∷ xs) [] e = absurd (true-false (sym e))
-same-numbers (x ∷ xs) (y ∷ ys) e =
-    ap₂ (_∷_) (eqb-true x y (and-left (eqb x y) (sameNumbers xs ys) e)) (same-numbers xs ys (and-right (eqb x y) (sameNumbers xs ys) e))
-
--- a row has five numbers
-pub row-numbers : (k : ℕ) → k < 120 → row k ≡ five (row k)
-row-numbers k h = same-numbers (row k) (five (row k)) (every-at (rowTests k) (all-at 120 rowTest (right 0) k h) 2)
+pub same-numbers : (xs ys : List ℕ) → sameNumbers xs ys ≡ true → xs ≡ ys
+same-numbers = same-by eqb eqb-true
 
 is-row : (a b c d e : ℕ) → a < 5 → b < 5 → c < 5 → d < 5 → e < 5
     → eqb b a ≡ false → eqb c a ≡ false → eqb c b ≡ false

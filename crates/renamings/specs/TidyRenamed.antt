@@ -24,7 +24,7 @@ use Rattle.actions.specs.Tidy.{Tidy, tidy-iff}
 use Rattle.logic.specs.Maps.{map-table}
 use Rattle.renamings.specs.Renaming.{Renaming, inverse, from-below, ltb-to}
 use Rattle.renamings.specs.Rename.{renameRequest, renameReplica, renamedReplicaAt, renameReplicas, renameState, Met}
-use Rattle.renamings.specs.PartsRenamed.{zero-replica-renamed, zero-request-renamed, replica-renamed, request-renamed}
+use Rattle.renamings.specs.PartsRenamed.{zero-replica-renamed, zero-request-renamed, replica-in-old, request-renamed}
 use Rattle.renamings.specs.RulesRenamed.{Fits, rules-renamed}
 
 -- the tidy form of a state that meets the rules
@@ -69,7 +69,7 @@ tidy-replica-renamed : (to from : ℕ → ℕ) (q : Replica) → renameReplica t
 unfolding tidyReplica
 tidy-replica-renamed to from q = refl
 
-module _ (s : State) (p : Renaming (replicaCount (s .limits))) (five : replicaCount (s .limits) ≤ 5) (fits : Fits s) where
+module _ (s : State) (p : Renaming (replicaCount (s .limits))) (five : replicaCount (s .limits) ≤ 5) where
   abbrev renamedState : State
   renamedState = renameState (p .to) (p .from) s
 
@@ -78,16 +78,13 @@ module _ (s : State) (p : Renaming (replicaCount (s .limits))) (five : replicaCo
   request-tidied e true = request-renamed p five s e
   request-tidied e false = sym (zero-request-renamed (p .to) (p .from))
 
-  replica-from : (j : ℕ) → replicaAt renamedState j ≡ renameReplica (p .to) (p .from) (replicaAt s (p .from j))
-  replica-from j = ap (replicaAt renamedState) (sym (p .to-from j)) ∙ replica-renamed p five s (p .from j) (fits .five)
-
   replica-tidied : (j : ℕ) → j < 5 → tidyReplicaAt renamedState j ≡ renamedReplicaAt (p .to) (p .from) (tidy s .replicas) j
   unfolding tidy
   replica-tidied j h =
       rw (
         getD-table 5 (tidyReplicaAt s) (p .from j) noReplica (from-below p 5 five j h),
         ltb-to (inverse p) (replicaCount (s .limits)) (le-refl (replicaCount (s .limits))) j,
-        replica-from j,
+        replica-in-old (p .to) (p .from) (s .replicas) j h,
       )
       (go (ltb j (replicaCount (s .limits))))
     where
@@ -114,5 +111,5 @@ pub met-renamed : (s : State) → Met s → (p : Renaming (replicaCount (s .limi
 met-renamed s m p =
     record {
       rules = rules-renamed s p (at-most-five s m) (fits s m) ∙ m .rules;
-      tidy = tidy-renamed s p (at-most-five s m) (fits s m) ∙ ap (renameState (p .to) (p .from)) (m .tidy);
+      tidy = tidy-renamed s p (at-most-five s m) ∙ ap (renameState (p .to) (p .from)) (m .tidy);
     }

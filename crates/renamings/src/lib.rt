@@ -1,8 +1,8 @@
 // Renamings of the replicas: the table of all of them, and a state under one.
-mod places;
+pub mod places;
 pub mod rows;
 pub mod state;
-mod table;
+pub mod table;
 
 ghost use mathlib.Core.Path.{_≡_};
 ghost use Rattle.renamings.specs.Rename.{rename};

@@ -14,7 +14,7 @@ pub(crate) fn new_name(p: [u8; 5], i: u8) -> u8
 }
 
 // The inverse: the old names of the replicas whose new names are 0 to 4. The caller shows that each new name is below five.
-pub(crate) fn inverse(p: [u8; 5]) -> [u8; 5]
+pub fn inverse(p: [u8; 5]) -> [u8; 5]
     requires { ⌜ Inward p ⌝ }
     ensures { λ r. ⌜ r ≡ inverted p ⌝ }
 {
@@ -65,7 +65,7 @@ fn place_fits(n: u8, p: [u8; 5], i: u8) -> bool
 }
 
 // Whether the five places are a renaming of n replicas.
-pub(crate) fn is_renaming(n: u8, p: [u8; 5]) -> bool
+pub fn is_renaming(n: u8, p: [u8; 5]) -> bool
     ensures { λ r. ⌜ r ≡ isRenaming n p ⌝ }
 {
     let mut i: u8 = 0;

@@ -1,16 +1,14 @@
-// A state under a renaming p; `back` is its inverse, which holds the old names. The caller of each function that takes it shows
-// that each old name is below five. `isrs` holds the renamed ISR of each ISR of five replicas, and the ISRs of a state are looked
-// up in it: an ISR's remainder by 32 has the same members.
+// A state under a renaming p. `back` is its inverse, which holds the old names. `isrs` holds the renamed ISR of each ISR of five
+// replicas, and the ISRs of a state are looked up in it: an ISR's remainder by 32 has the same members.
 ghost use mathlib.Core.Path.{_≡_};
 ghost use mathlib.Core.Bool.{true};
 ghost use Prim.Native.Nat.{_≤_, _<_};
-ghost use Rattle.parts.specs.Isr.{member, bit};
 ghost use Rattle.logic.specs.Table.{table};
 ghost use Rattle.replica.specs.Replica.{replicaOf};
 ghost use Rattle.cluster.specs.Rules.{rules};
-ghost use Rattle.renamings.specs.Names.{newName, oldName, nameIn, Inward};
+ghost use Rattle.renamings.specs.Names.{newName, oldName, inverted, isRenaming};
 ghost use Rattle.renamings.specs.Rename.{renameLeader, renameIsr, renameReplicas, renameState, Renames};
-ghost use Rattle.renamings.specs.CodeLaws.{requestLookedUp};
+ghost use Rattle.renamings.specs.CodeLaws.{namedBit, requestLookedUp};
 use crate::places;
 use cluster::Quorum;
 use cluster::Request;
@@ -19,7 +17,7 @@ use parts::Leader;
 use replica::Replica;
 
 // The leader by its new name.
-fn rename_leader(p: [u8; 5], leader: Leader) -> Leader
+pub fn rename_leader(p: [u8; 5], leader: Leader) -> Leader
     ensures { λ r. ⌜ r ≡ renameLeader (newName p) leader ⌝ }
 {
     match leader {
@@ -28,37 +26,39 @@ fn rename_leader(p: [u8; 5], leader: Leader) -> Leader
     }
 }
 
-// 1 for a member of the ISR, else 0. The caller shows that there is such a replica.
-fn member_bit(isr: u8, i: u8) -> u8
+// What replica i adds to the renamed ISR: the bit of its new name where it is a member, else 0. The caller shows that there is such a
+// replica, and such a name.
+fn named_bit(isr: u8, i: u8, name: u8) -> u8
     requires { ⌜ i < 5 ⌝ }
-    ensures { λ r. ⌜ (r ≡ bit (member isr i)) × (r ≤ 1) ⌝ }
+    requires { ⌜ name < 5 ⌝ }
+    ensures { λ r. ⌜ (r ≡ namedBit isr i name) × (r ≤ 16) ⌝ }
 {
-    (isr >> i) % 2
+    ((isr >> i) % 2) << name
 }
 
-// The ISR with each member by its new name.
-fn rename_isr(back: [u8; 5], isr: u8) -> u8
-    requires { ⌜ Inward back ⌝ }
-    ensures { λ r. ⌜ r ≡ renameIsr (nameIn back) isr ⌝ }
+// The ISR with each member by its new name. The caller shows that p is a renaming of five places.
+pub fn rename_isr(p: [u8; 5], isr: u8) -> u8
+    requires { ⌜ isRenaming 5 p ≡ true ⌝ }
+    ensures { λ r. ⌜ r ≡ renameIsr (oldName p) isr ⌝ }
 {
-    let a = member_bit(isr, back[0]);
-    let b = member_bit(isr, back[1]);
-    let c = member_bit(isr, back[2]);
-    let d = member_bit(isr, back[3]);
-    let e = member_bit(isr, back[4]);
-    a + 2 * b + 4 * c + 8 * d + 16 * e
+    let a = named_bit(isr, 0, p[0]);
+    let b = named_bit(isr, 1, p[1]);
+    let c = named_bit(isr, 2, p[2]);
+    let d = named_bit(isr, 3, p[3]);
+    let e = named_bit(isr, 4, p[4]);
+    a + b + c + d + e
 }
 
-// The renamed ISRs: place m holds that of m. The loop has no branch and renames many ISRs at a time; it is quicker for all 32 than
-// for each of the 22 ISRs of a state by itself.
-fn renamed_isrs(back: [u8; 5]) -> [u8; 32]
-    requires { ⌜ Inward back ⌝ }
-    ensures { λ r. ⌜ r ≡ table 32 (renameIsr (nameIn back)) ⌝ }
+// The renamed ISRs: place m holds that of m. The caller shows that p is a renaming of five places. The loop has no branch and renames
+// many ISRs at a time; it is quicker for all 32 than for each of the 22 ISRs of a state by itself.
+fn renamed_isrs(p: [u8; 5]) -> [u8; 32]
+    requires { ⌜ isRenaming 5 p ≡ true ⌝ }
+    ensures { λ r. ⌜ r ≡ table 32 (renameIsr (oldName p)) ⌝ }
 {
     let mut isrs = [0; 32];
     let mut isr: u8 = 0;
     while isr < 32 {
-        isrs[isr as usize] = rename_isr(back, isr);
+        isrs[isr as usize] = rename_isr(p, isr);
         isr = isr + 1;
     }
     isrs
@@ -99,16 +99,18 @@ fn rename_replica(p: [u8; 5], isr: u8, q: Replica) -> Replica
     }
 }
 
-// The blocks renamed: place j gets that of the replica which is named j from now on. The caller shows what `isrs` holds, too.
+// The blocks renamed: place j gets that of the replica which is named j from now on. The caller shows that p is a renaming
+// of five places, and what `back` and `isrs` hold.
 fn rename_replicas(
     p: [u8; 5],
     back: [u8; 5],
     isrs: [u8; 32],
     replicas: [Replica; 5],
 ) -> [Replica; 5]
-    requires { ⌜ Inward back ⌝ }
-    requires { ⌜ isrs ≡ table 32 (renameIsr (nameIn back)) ⌝ }
-    ensures { λ r. ⌜ r ≡ renameReplicas (newName p) (nameIn back) replicas ⌝ }
+    requires { ⌜ isRenaming 5 p ≡ true ⌝ }
+    requires { ⌜ back ≡ inverted p ⌝ }
+    requires { ⌜ isrs ≡ table 32 (renameIsr (oldName p)) ⌝ }
+    ensures { λ r. ⌜ r ≡ renameReplicas (newName p) (oldName p) replicas ⌝ }
 {
     let mut named = replicas;
     let mut j: usize = 0;
@@ -128,7 +130,7 @@ pub fn rename_state(s: State, p: [u8; 5]) -> State
     ensures { λ r. ⌜ r ≡ renameState (newName p) (oldName p) s ⌝ }
 {
     let back = places::inverse(p);
-    let isrs = renamed_isrs(back);
+    let isrs = renamed_isrs(p);
     let q = s.quorum;
     let l = q.leader;
     let quorum = Quorum {

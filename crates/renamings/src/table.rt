@@ -1,8 +1,9 @@
 // All 120 renamings of five places, in rising order: a line is a row, and holds the new names of replicas 0 to 4.
 ghost use mathlib.Core.Path.{_≡_};
-ghost use Prim.Native.Nat.{_<_};
-ghost use Rattle.renamings.specs.Names.{row};
+ghost use Prim.Native.Nat.{_≤_};
+ghost use Rattle.renamings.specs.Fitting.{partNumbers};
 
+#[rattlefmt::skip]
 const RENAMINGS: [u8; 600] = [
     0, 1, 2, 3, 4,
     0, 1, 2, 4, 3,
@@ -126,18 +127,19 @@ const RENAMINGS: [u8; 600] = [
     4, 3, 2, 1, 0,
 ];
 
-// Row k. The caller shows that there is one. The numbers are taken out once, and the five read off them.
-pub(crate) fn five(k: usize) -> [u8; 5]
-    requires { ⌜ k < 120 ⌝ }
-    ensures { λ r. ⌜ r ≡ row k ⌝ }
+// The 24 rows from row `first` on. The caller shows that there are so many. The whole table is stored where it is read, so rows are
+// taken out a part at a time, and read off that.
+pub fn part(first: usize) -> [u8; 120]
+    requires { ⌜ first ≤ 96 ⌝ }
+    ensures { λ r. ⌜ r ≡ partNumbers first ⌝ }
 {
     let numbers = RENAMINGS;
-    let at = 5 * k;
-    [
-        numbers[at],
-        numbers[at + 1],
-        numbers[at + 2],
-        numbers[at + 3],
-        numbers[at + 4],
-    ]
+    let start = 5 * first;
+    let mut taken = [0; 120];
+    let mut k: usize = 0;
+    while k < 120 {
+        taken[k] = numbers[start + k];
+        k = k + 1;
+    }
+    taken
 }

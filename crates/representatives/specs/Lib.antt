@@ -1,5 +1,7 @@
 pub mod Representative
 pub mod RepresentativeTheorems
-pub mod CompareLaws
+pub mod Comparison
+pub mod Fields
+pub mod Search
 pub mod CodeLaws
 pub mod RepresentativeExample

@@ -1,10 +1,9 @@
 -- The representative of a state: "the state under the renaming with the least image, bytes compared from the front". Assumes
 -- nothing.
 use Prim.Native.Nat.{ℕ}
-use mathlib.Core.Bool.{Bool, cond}
+use mathlib.Core.Bool.{cond}
 use mathlib.Core.List.{List}
 use Rattle.logic.specs.Least.{leastFrom}
-use Rattle.logic.specs.Order.{precedes}
 use Rattle.parts.specs.Refusal.{accepted, brokenState}
 use Rattle.cluster.specs.declared.State.{State}
 use Rattle.cluster.specs.declared.Outcome.{Outcome}
@@ -18,10 +17,6 @@ use Rattle.renamings.specs.Rename.{renamed}
 -- the image of the state under p
 abbrev pub imageUnder : State → List ℕ → List ℕ
 imageUnder s p = image (renamed p s)
-
--- the image of the state under p comes before that under q
-abbrev pub comesFirst : State → List ℕ → List ℕ → Bool
-comesFirst s p q = precedes (imageUnder s p) (imageUnder s q)
 
 -- the row of the table that is a renaming of the state's replicas and gives the least image; of several the first
 unfoldable pub leastRenaming : State → List ℕ

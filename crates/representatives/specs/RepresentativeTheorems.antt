@@ -93,7 +93,7 @@ tidy-representatives =
 renamed-tidy : (s : State) (p : List ℕ) → renamed p (tidy s) ≡ renamed p s
 renamed-tidy s p = renamed-same (tidy s) s p (tidy-same s)
 
-pub least-tidy : (s : State) → leastRenaming (tidy s) ≡ leastRenaming s
+least-tidy : (s : State) → leastRenaming (tidy s) ≡ leastRenaming s
 unfolding leastRenaming tidy
 least-tidy s =
     ap (λ (key : List ℕ → List ℕ). leastFrom (isRenaming (replicaCount (s .limits))) key (row 0) rows) (fun-ext (λ p. ap image (renamed-tidy s p)))

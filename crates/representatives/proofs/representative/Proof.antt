@@ -1,15 +1,22 @@
-use mathlib.Core.Path.{sym, ap, _∙_, subst}
-use borrow.Author.Needs.{needs}
+use mathlib.Core.Bool.{true}
+use mathlib.Core.Path.{_≡_, sym, ap, _∙_}
+use borrow.Author.Tests.{not-false}
+use Rattle.cluster.specs.State.{tidy}
 use Rattle.cluster.specs.Rules.{rules}
-use Rattle.renamings.specs.Names.{newName, oldName}
-use Rattle.renamings.specs.Rename.{renameState, Met}
-use Rattle.representatives.specs.Representative.{leastRenaming}
-use Rattle.cluster.specs.Unused.{rules-tidy}
-use Rattle.renamings.specs.TidyRenamed.{met-tidy}
 use Rattle.cluster.specs.RuleLaws.{refusal-met}
+use Rattle.cluster.specs.Unused.{rules-tidy}
+use Rattle.renamings.specs.Names.{newName, oldName}
+use Rattle.renamings.specs.Rename.{renameState}
+use Rattle.renamings.specs.TidyRenamed.{met-tidy, fits}
+use Rattle.renamings.specs.CodeLaws.{leaves-state}
 use Rattle.representatives.specs.CodeLaws.{represent-broken, represent-met}
+use borrow.Author.Needs.{needs}
 use Rattle.representatives.proofs.representative.Statement.{statement}
 use Rattle.representatives.proofs.representative.Tie as tie
+
+-- past the first test the state meets the rules
+met : (c : tie.Else1) → rules (c .before .before .args .s) ≡ true
+met c = refusal-met (c .before .before .args .s) (sym (c .before .state-refusal .ensures) ∙ c .if1 .left)
 
 state-refusal-requires : tie.Need-state-refusal-requires
 state-refusal-requires c κs = search needs
@@ -18,23 +25,36 @@ returns : tie.Need-returns
 returns c =
     let o = c .before .before in rw (c .before .state-refusal .ensures) (represent-broken (o .args .s) (λ e. c .if1 .taken (c .before .state-refusal .ensures ∙ e)))
 
+least-renaming-requires : tie.Need-least-renaming-requires
+least-renaming-requires c κs = met c
+
 tidy-requires : tie.Need-tidy-requires
 tidy-requires c κs = search needs
 
-least-row-requires : tie.Need-least-row-requires
-least-row-requires c κs =
-    let o = c .before .before .before in subst Met (sym (c .tidy .ensures)) (met-tidy (o .args .s) (refusal-met (o .args .s) (sym (c .before .before .state-refusal .ensures) ∙ c .before .if1 .left)))
-
-row-requires : tie.Need-row-requires
-row-requires c κs = search needs
+is-renaming-requires : tie.Need-is-renaming-requires
+is-renaming-requires c κs = search needs
 
 rename-state-requires : tie.Need-rename-state-requires
+unfolding tidy
 rename-state-requires c κs =
-    let o = c .before .before .before .before .before in (ap rules (c .before .before .tidy .ensures) ∙ rules-tidy (o .args .s) ∙ refusal-met (o .args .s) (sym (c .before .before .before .before .state-refusal .ensures) ∙ c .before .before .before .if1 .left), rw (c .row .ensures) (c .before .least-row .ensures .1))
+    let z = c .before .before .before .before in
+    rw (c .before .before .tidy .ensures) (rules-tidy (z .before .before .args .s) ∙ met z, c .before .before .before .least-renaming .ensures .0)
 
 returns-2 : tie.Need-returns-2
 returns-2 c =
-    let o = c .before .before .before .before .before .before in represent-met (o .args .s) _ (c .before .row .result) (refusal-met (o .args .s) (sym (c .before .before .before .before .before .state-refusal .ensures) ∙ c .before .before .before .before .if1 .left)) (c .before .row .ensures ∙ c .before .before .least-row .ensures .2 ∙ ap leastRenaming (c .before .before .before .tidy .ensures)) (c .rename-state .ensures ∙ ap (renameState (newName (c .before .row .result)) (oldName (c .before .row .result))) (c .before .before .before .tidy .ensures))
+    let l = c .before .before .before .before in
+    let z = l .before in
+    let p = l .least-renaming .result in
+    represent-met (z .before .before .args .s) _ p (met z) (l .least-renaming .ensures .1) (c .rename-state .ensures ∙ ap (renameState (newName p) (oldName p)) (c .before .before .before .tidy .ensures))
+
+returns-3 : tie.Need-returns-3
+returns-3 c =
+    let l = c .before .before .before in
+    let z = l .before in
+    let s = z .before .before .args .s in
+    let p = l .least-renaming .result in
+    represent-met s _ p (met z) (l .least-renaming .ensures .1)
+    (c .before .before .tidy .ensures ∙ leaves-state p (tidy s) (sym (c .before .is-renaming .ensures) ∙ not-false _ (c .if2 .left)) (fits (tidy s) (met-tidy s (met z))))
 
 pub representative-spec : {M : Type 1} → statement M
 representative-spec =
@@ -42,8 +62,9 @@ representative-spec =
     (tie.spec
     state-refusal-requires
     returns
+    least-renaming-requires
     tidy-requires
-    least-row-requires
-    row-requires
+    is-renaming-requires
     rename-state-requires
-    returns-2)
+    returns-2
+    returns-3)

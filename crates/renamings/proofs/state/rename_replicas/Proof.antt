@@ -8,22 +8,22 @@ use Rattle.logic.specs.Table.{splice, splice-start, fill-turn, fill-end, length
 use Rattle.replica.specs.declared.Replica.{Replica}
 use Rattle.replica.specs.Replica.{noReplica}
 use Rattle.cluster.specs.State.{replicaIn}
-use Rattle.renamings.specs.Names.{newName, nameIn}
+use Rattle.renamings.specs.Names.{newName, oldName}
 use Rattle.renamings.specs.Rename.{renamedReplicaAt, renameReplicas}
-use Rattle.renamings.specs.CodeLaws.{isr-named}
+use Rattle.renamings.specs.CodeLaws.{isr-named, back-old, back-below}
 use Rattle.renamings.proofs.state.rename_replicas.Statement.{statement}
 use Rattle.renamings.proofs.state.rename_replicas.Tie as tie
 
 abbrev Inv-loop : tie.InvT-loop
 Inv-loop p back isrs replicas named₀ j₀ named j =
-    (j ≤ 5) × (named ≡ splice 5 j (renamedReplicaAt (newName p) (nameIn back) replicas) (replicaIn replicas))
+    (j ≤ 5) × (named ≡ splice 5 j (renamedReplicaAt (newName p) (oldName p) replicas) (replicaIn replicas))
 
 abbrev μ-loop : tie.MeasureT-loop
 μ-loop p back isrs replicas named₀ j₀ named j = 5 - j
 
 loop-holds : tie.Need-loop-holds Inv-loop μ-loop
 loop-holds c =
-    let l : length (c .args .t4) ≡ 5 = search (needs, length-mapped) in (omega arith, splice-start noReplica 5 (renamedReplicaAt (newName (c .args .p)) (nameIn (c .args .t2)) (c .args .t4)) (c .args .t4) l)
+    let l : length (c .args .t4) ≡ 5 = search (needs, length-mapped) in (omega arith, splice-start noReplica 5 (renamedReplicaAt (newName (c .args .p)) (oldName (c .args .p)) (c .args .t4)) (c .args .t4) l)
 
 array-read-q : tie.Need-array-read-q Inv-loop μ-loop
 array-read-q c = search needs
@@ -31,11 +31,12 @@ array-read-q c = search needs
 cast-q : tie.Need-cast-q Inv-loop μ-loop
 cast-q c = search needs
 
-mul-q : tie.Need-mul-q Inv-loop μ-loop
-mul-q c = let h = c .before .before .pre .0 (c .before .loop .j) (c .loop-test .taken) in search needs
-
 array-copy-out-q : tie.Need-array-copy-out-q Inv-loop μ-loop
-array-copy-out-q c = c .before .before .pre .0 (c .before .loop .j) (c .loop-test .taken)
+array-copy-out-q c =
+    let o = c .before .before in back-below (o .args .p) (o .args .t2) (o .pre .0) (o .pre .1 .0) (c .before .loop .j) (c .loop-test .taken)
+
+mul-q : tie.Need-mul-q Inv-loop μ-loop
+mul-q c = let h = array-copy-out-q c in search needs
 
 cast-rename-replica : tie.Need-cast-rename-replica Inv-loop μ-loop
 cast-rename-replica c = search needs
@@ -60,16 +61,18 @@ loop-less c = search needs
 
 loop-again : tie.Need-loop-again Inv-loop μ-loop
 loop-again c =
-    let o = c .before .before .before .before .before in let a = o .args in let at = c .before .before .before .before .loop in let from = nameIn (a .t2) in (
+    let o = c .before .before .before .before .before in
+    let a = o .args in
+    let at = c .before .before .before .before .loop in (
       omega arith,
-      fill-turn (λ (l : List Replica). l) (λ (l : List Replica) (v : Replica). set l (at .j) v) 5 (at .j) (renamedReplicaAt (newName (a .p)) from (a .t4)) (replicaIn (a .t4)) (λ l. refl) (omega arith) (at .named) (c .rename-replica .result) (at .inv .1)
-          (rw (c .rename-replica .ensures, isr-named from (a .t3) (replicaIn (a .t4) (from (at .j)) .isr) (o .pre .1)) refl),
+      fill-turn (λ (l : List Replica). l) (λ (l : List Replica) (v : Replica). set l (at .j) v) 5 (at .j) (renamedReplicaAt (newName (a .p)) (oldName (a .p)) (a .t4)) (replicaIn (a .t4)) (λ l. refl) (omega arith) (at .named) (c .rename-replica .result) (at .inv .1)
+          (rw (c .rename-replica .ensures, back-old (a .p) (a .t2) (o .pre .0) (o .pre .1 .0) (at .j) (c .before .before .before .loop-test .taken), isr-named (oldName (a .p)) (a .t3) (replicaIn (a .t4) (oldName (a .p) (at .j)) .isr) (o .pre .1 .1)) refl),
     )
 
 returns : tie.Need-returns Inv-loop μ-loop
 unfolding renameReplicas
 returns c =
-    let a = c .before .before .args in let at = c .before .loop in fill-end (λ (l : List Replica). l) 5 (at .j) (renamedReplicaAt (newName (a .p)) (nameIn (a .t2)) (a .t4)) (replicaIn (a .t4)) (omega arith) (omega arith) (at .named) (at .inv .1)
+    let a = c .before .before .args in let at = c .before .loop in fill-end (λ (l : List Replica). l) 5 (at .j) (renamedReplicaAt (newName (a .p)) (oldName (a .p)) (a .t4)) (replicaIn (a .t4)) (omega arith) (omega arith) (at .named) (at .inv .1)
 
 pub rename-replicas-spec : {M : Type 1} → statement M
 rename-replicas-spec =

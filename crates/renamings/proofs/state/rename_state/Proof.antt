@@ -1,25 +1,24 @@
-use mathlib.Core.Path.{_∙_}
+use mathlib.Core.Path.{_≡_, _∙_}
+use mathlib.Core.Bool.{true}
 use mir.Facts.{toZ-ofZ}
 use mir.Syntax.{w8}
+use native.Mathlib.Omega.{arith}
 use borrow.Author.Needs.{needs}
-use Rattle.cluster.specs.State.{replicaCount}
-use Rattle.cluster.specs.RuleLaws.{rules-bounded}
 use Rattle.cluster.proofs.Owned.{shaped-of}
-use Rattle.renamings.specs.Names.{nameIn, Inward, inverted}
-use Rattle.renamings.specs.CodeLaws.{isr-named, requests-looked-up, both-inward, state-by}
+use Rattle.renamings.specs.Names.{oldName, isRenaming}
+use Rattle.renamings.specs.CodeLaws.{renames-wide, isr-named, requests-looked-up, both-inward, state-by}
 use Rattle.renamings.proofs.state.rename_state.Statement.{statement}
 use Rattle.renamings.proofs.state.rename_state.Tie as tie
 
--- the new names and the old ones are below five
-inward : (c : tie.Start) → Inward (c .args .p) × Inward (inverted (c .args .p))
-inward c =
-    let s = c .args .s in both-inward (replicaCount (s .limits)) (c .args .p) (rules-bounded s (c .pre .0) .replicas) (c .pre .1)
+-- p is a renaming of five places
+wide : (c : tie.Start) → isRenaming 5 (c .args .p) ≡ true
+wide c = renames-wide (c .args .s) (c .pre .0) (c .args .p) (c .pre .1)
 
 inverse-requires : tie.Need-inverse-requires
-inverse-requires c κs = inward c .0
+inverse-requires c κs = both-inward 5 (c .args .p) (omega arith) (wide c) .0
 
 renamed-isrs-requires : tie.Need-renamed-isrs-requires
-renamed-isrs-requires c κs = rw (c .inverse .ensures) (inward (c .before) .1)
+renamed-isrs-requires c κs = wide (c .before)
 
 rename-leader-requires : tie.Need-rename-leader-requires
 rename-leader-requires c κs = search needs
@@ -35,7 +34,8 @@ rename-requests-requires c κs = search needs
 
 rename-replicas-requires : tie.Need-rename-replicas-requires
 rename-replicas-requires c κs =
-    let o = c .before .before .before .before .before .before .before .before in (renamed-isrs-requires (o .before) κs, o .renamed-isrs .ensures)
+    let n = c .before .before .before .before .before .before .before .before in
+    (wide (n .before .before), (n .before .inverse .ensures, n .renamed-isrs .ensures))
 
 returns : tie.Need-returns
 returns c =
@@ -43,15 +43,13 @@ returns c =
     let n = l .before .before in
     let o = n .before .before in
     let s = o .args .s in
-    let isrs = n .renamed-isrs .ensures in
-    let back = nameIn (n .before .inverse .result) in
+    let from = oldName (o .args .p) in
     rw (
       c .rename-replicas .ensures,
-      c .before .rename-requests .ensures ∙ requests-looked-up (o .args .p) (n .renamed-isrs .result) (s .requests) back isrs,
+      c .before .rename-requests .ensures ∙ requests-looked-up (o .args .p) (n .renamed-isrs .result) (s .requests) from (n .renamed-isrs .ensures),
       l .rename-leader .ensures,
-      isr-named back (n .renamed-isrs .result) (s .quorum .isr) isrs,
+      isr-named from (n .renamed-isrs .result) (s .quorum .isr) (n .renamed-isrs .ensures),
       toZ-ofZ {w = w8} {z = s .quorum .epoch} (record { sfits = c .before .before .before .before .before .struct-told .given .0 .1 }),
-      n .before .inverse .ensures,
     ) (state-by (o .args .p) s (shaped-of s _ (o .good .0) .requests))
 
 pub rename-state-spec : {M : Type 1} → statement M

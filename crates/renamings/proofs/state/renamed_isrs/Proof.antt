@@ -5,19 +5,19 @@ use native.Mathlib.Omega.{arith}
 use lib.ListN.{set}
 use borrow.Author.Needs.{needs}
 use Rattle.logic.specs.Table.{splice, splice-start, fill-turn, fill-end}
-use Rattle.renamings.specs.Names.{nameIn}
+use Rattle.renamings.specs.Names.{nameIn, oldName}
 use Rattle.renamings.specs.Rename.{renameIsr}
 use Rattle.renamings.proofs.state.renamed_isrs.Statement.{statement}
 use Rattle.renamings.proofs.state.renamed_isrs.Tie as tie
 
 abbrev Inv-loop : tie.InvT-loop
-Inv-loop back isrs₀ isr₀ isrs isr = (isr ≤ 32) × (isrs ≡ splice 32 isr (renameIsr (nameIn back)) (nameIn isrs₀))
+Inv-loop p isrs₀ isr₀ isrs isr = (isr ≤ 32) × (isrs ≡ splice 32 isr (renameIsr (oldName p)) (nameIn isrs₀))
 
 abbrev μ-loop : tie.MeasureT-loop
-μ-loop back isrs₀ isr₀ isrs isr = 32 - isr
+μ-loop p isrs₀ isr₀ isrs isr = 32 - isr
 
 loop-holds : tie.Need-loop-holds Inv-loop μ-loop
-loop-holds c = (omega arith, splice-start 0 32 (renameIsr (nameIn (c .args .back))) _ refl)
+loop-holds c = (omega arith, splice-start 0 32 (renameIsr (oldName (c .args .p))) _ refl)
 
 rename-isr-requires : tie.Need-rename-isr-requires Inv-loop μ-loop
 rename-isr-requires c κs = search needs
@@ -36,11 +36,11 @@ loop-less c = search needs
 
 loop-again : tie.Need-loop-again Inv-loop μ-loop
 loop-again c =
-    let at = c .before .before .loop in (omega arith, fill-turn (λ (l : List ℕ). l) (λ (l : List ℕ) (m : ℕ). set l (at .isr) m) 32 (at .isr) (renameIsr (nameIn (c .before .before .before .args .back))) _ (λ l. refl) (omega arith) (at .isrs) (c .rename-isr .result) (at .inv .1) (c .rename-isr .ensures))
+    let at = c .before .before .loop in (omega arith, fill-turn (λ (l : List ℕ). l) (λ (l : List ℕ) (m : ℕ). set l (at .isr) m) 32 (at .isr) (renameIsr (oldName (c .before .before .before .args .p))) _ (λ l. refl) (omega arith) (at .isrs) (c .rename-isr .result) (at .inv .1) (c .rename-isr .ensures))
 
 returns : tie.Need-returns Inv-loop μ-loop
 returns c =
-    let at = c .before .loop in fill-end (λ (l : List ℕ). l) 32 (at .isr) (renameIsr (nameIn (c .before .before .args .back))) _ (omega arith) (omega arith) (at .isrs) (at .inv .1)
+    let at = c .before .loop in fill-end (λ (l : List ℕ). l) 32 (at .isr) (renameIsr (oldName (c .before .before .args .p))) _ (omega arith) (omega arith) (at .isrs) (at .inv .1)
 
 pub renamed-isrs-spec : {M : Type 1} → statement M
 renamed-isrs-spec =
