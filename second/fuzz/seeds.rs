@@ -19,7 +19,7 @@ fn write_seeds(folder: &Path, random: &mut Random) -> io::Result<()> {
         let states = [
             ("reached", answers::judge(&run).state),
             ("drawn", draw::valid_state(random)),
-            ("full", draw::full_state(random)),
+            ("full", draw::full_state(random, 5)),
         ];
         for (name, state) in states {
             if let Ok(image) = answers::image(&state) {

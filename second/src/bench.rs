@@ -8,7 +8,7 @@
 
 use harness::course;
 use harness::draw;
-use harness::layout::{LONGEST_IMAGE, LONGEST_RUN, RECORD, VERDICT};
+use harness::layout::{Flat, LONGEST_IMAGE, LONGEST_RUN, R, RECORD, VERDICT};
 use harness::random::Random;
 use harness::{answers, proved};
 use second::flat;
@@ -18,9 +18,12 @@ use std::time::Instant;
 const SEED: u64 = 1;
 const ROUNDS: usize = 31;
 const MOST_ACTIONS: usize = LONGEST_RUN / RECORD - 1;
+/// How many representatives make a part, for 1 to 5 replicas.
+const PART: [usize; 5] = [600, 600, 300, 100, 40];
 const LENGTHS: [usize; 5] = [1_000, 2_000, 4_000, 8_000, MOST_ACTIONS];
 
 type Ask = fn(&[u8], &mut [u8]) -> u8;
+type Draw = fn(&mut Random, u8) -> Flat;
 type Write = fn(&[u8], &mut [u8]) -> u32;
 type Work<'a> = &'a dyn Fn(&[Vec<u8>]) -> u64;
 
@@ -170,18 +173,21 @@ fn accepted(run: Vec<u8>) -> Vec<u8> {
     run
 }
 
-/// States of five replicas with full logs.
-fn full_states(random: &mut Random, count: usize) -> Vec<Vec<u8>> {
-    (0..count)
-        .map(|_| draw::full_state(random).to_vec())
-        .collect()
+/// So many states of R replicas, as they are drawn.
+fn drawn_states(random: &mut Random, r: u8, count: usize, draw: Draw) -> Vec<Vec<u8>> {
+    (0..count).map(|_| draw(random, r).to_vec()).collect()
 }
 
-/// The last states of runs, logs of every length.
-fn reached_states(random: &mut Random, count: usize) -> Vec<Vec<u8>> {
-    (0..count)
-        .map(|_| answers::judge(&course::run(random, 100)).state.to_vec())
-        .collect()
+/// The last states of runs, logs of every length; only of so many replicas as are wanted.
+fn reached_states(random: &mut Random, count: usize, wanted: &[u8]) -> Vec<Vec<u8>> {
+    let mut states = Vec::new();
+    while states.len() < count {
+        let state = answers::judge(&course::run(random, 100)).state;
+        if wanted.contains(&state[R]) {
+            states.push(state.to_vec());
+        }
+    }
+    states
 }
 
 fn image_lines(which: &str, states: &[Vec<u8>]) {
@@ -198,6 +204,26 @@ fn image_lines(which: &str, states: &[Vec<u8>]) {
     let readers: (Ask, Ask) = (proved::read_image, flat::read_image);
     let name = format!("images read, {}", which);
     ask_line(&name, images.len(), &parts(&images, 1_000), readers);
+}
+
+/// Representatives of states of runs, of states with full logs, and of states that no renaming
+/// changes: there every comparison of two renamings goes to the end.
+fn representative_lines(random: &mut Random, r: u8) {
+    let sides: (Ask, Ask) = (proved::representative, flat::representative);
+    let kinds = [
+        ("states of runs", reached_states(random, 600, &[r])),
+        ("full logs", drawn_states(random, r, 600, draw::full_state)),
+        ("all alike", drawn_states(random, r, 600, draw::alike_state)),
+    ];
+    for (which, states) in kinds {
+        let name = format!("representatives, R {}, {}", r, which);
+        ask_line(
+            &name,
+            states.len(),
+            &parts(&states, PART[usize::from(r) - 1]),
+            sides,
+        );
+    }
 }
 
 /// Judging at several lengths: each run cut to each length, all lengths in every round.
@@ -240,16 +266,13 @@ fn print_speeds(random: &mut Random) {
         let runs = longest_runs(random, r, 15);
         judged_line(&format!("actions judged, 10,921 a run, R {}", r), &runs, 1);
     }
-    let full = full_states(random, 1_000);
-    let sides: (Ask, Ask) = (proved::representative, flat::representative);
-    ask_line(
-        "representatives, R 5, full logs",
-        full.len(),
-        &parts(&full, 40),
-        sides,
-    );
-    image_lines("R 5, full logs", &full_states(random, 20_000));
-    image_lines("states of runs", &reached_states(random, 20_000));
+    for r in 1..=5 {
+        representative_lines(random, r);
+    }
+    let full = drawn_states(random, 5, 20_000, draw::full_state);
+    image_lines("R 5, full logs", &full);
+    let reached = reached_states(random, 20_000, &[1, 2, 3, 4, 5]);
+    image_lines("states of runs", &reached);
 }
 
 fn print_lengths(random: &mut Random) {

@@ -170,8 +170,8 @@ pub fn any_states(both: &mut Both, scale: usize) -> String {
 }
 
 /// Any bytes, small numbers, states that nearly meet the rules and states that do, some with
-/// rubbish in unused room.
-fn drawn_states(both: &mut Both) -> [Flat; 7] {
+/// replicas alike, some with rubbish in unused room.
+fn drawn_states(both: &mut Both) -> [Flat; 8] {
     let (valid, reached) = (draw::valid_state(&mut both.random), reached_state(both));
     let random = &mut both.random;
     [
@@ -179,7 +179,8 @@ fn drawn_states(both: &mut Both) -> [Flat; 7] {
         draw::small_state(random),
         draw::nearly_valid_state(random),
         valid,
-        draw::full_state(random),
+        draw::full_state(random, 5),
+        draw::nearly_alike_state(random),
         draw::with_rubbish(random, &valid),
         draw::with_rubbish(random, &reached),
     ]

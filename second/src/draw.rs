@@ -245,14 +245,14 @@ fn draw_logs(random: &mut Random, state: &mut Flat) {
     }
 }
 
-/// A state that meets all rules, of five replicas with 16 records in each log.
-pub fn full_state(random: &mut Random) -> Flat {
+/// A state that meets all rules, of R replicas with 16 records in each log.
+pub fn full_state(random: &mut Random, r: u8) -> Flat {
     let mut state = [0; STATE];
-    state[..6].copy_from_slice(&[5, 16, 64, 15, 16, 64]);
+    state[..6].copy_from_slice(&[r, 16, 64, 15, 16, 64]);
     draw_requests(random, &mut state);
     let mut epochs = [0; 64];
     random.fill(&mut epochs);
-    for i in 0..5 {
+    for i in 0..usize::from(r) {
         for offset in 0..16 {
             let id = offset + 16 * random.below(4);
             state[record(i, offset)] = id as u8;
@@ -262,6 +262,74 @@ pub fn full_state(random: &mut Random) -> Flat {
     }
     draw_replicas(random, &mut state);
     state
+}
+
+/// A state that meets all rules and that no renaming of its R replicas changes: no leader anywhere,
+/// each ISR full or empty, the replicas alike, 16 records in each log.
+pub fn alike_state(random: &mut Random, r: u8) -> Flat {
+    let all = (1 << r) - 1;
+    let mut state = [0; STATE];
+    state[..6].copy_from_slice(&[r, 16, 64, 15, 16, 32]);
+    state[QUORUM_EPOCH] = 15;
+    state[QUORUM_ISR] = random.pick(&[0, all]);
+    for epoch in 0..16 {
+        state[request(epoch) + 1] = random.pick(&[0, all]);
+    }
+    let (hw, epoch) = (random.within(0, 16), random.within(0, 15));
+    let isr = random.pick(&[0, all]);
+    let mut epochs = [0; 16];
+    random.fill(&mut epochs);
+    for i in 0..usize::from(r) {
+        state[replica(i) + HW] = hw;
+        state[replica(i) + EPOCH] = epoch;
+        state[replica(i) + ISR] = isr;
+        state[replica(i) + END] = 16;
+        for offset in 0..16 {
+            state[record(i, offset)] = offset as u8;
+            state[record(i, offset) + 1] = epochs[offset] % 16;
+        }
+    }
+    state
+}
+
+/// Such a state with up to three fields of single replicas changed, so that it still meets all
+/// rules: two of its renamings are told apart by few fields, and by any field of a replica but its
+/// leader.
+pub fn nearly_alike_state(random: &mut Random) -> Flat {
+    let r = random.within(1, 5);
+    let mut state = alike_state(random, r);
+    for _ in 0..random.below(4) {
+        let i = random.below(usize::from(r));
+        change_replica(random, &mut state, i);
+    }
+    state
+}
+
+fn change_replica(random: &mut Random, state: &mut Flat, i: usize) {
+    let (at, all) = (replica(i), (1 << state[R]) - 1);
+    let end = state[at + END];
+    match random.below(5) {
+        0 => state[at + HW] = random.within(0, end),
+        1 => {
+            state[at + EPOCH] = 255;
+            state[at + ISR] = 0;
+        }
+        2 if state[at + EPOCH] != 255 => state[at + ISR] = random.byte() & all,
+        3 if end > 0 => {
+            let offset = random.below(usize::from(end));
+            state[record(i, offset)] = 16 + offset as u8;
+            state[record(i, offset) + 1] = offset as u8;
+        }
+        _ => {
+            let cut = random.within(0, end);
+            for offset in usize::from(cut)..usize::from(end) {
+                state[record(i, offset)] = 0;
+                state[record(i, offset) + 1] = 0;
+            }
+            state[at + END] = cut;
+            state[at + HW] = state[at + HW].min(cut);
+        }
+    }
 }
 
 fn draw_replicas(random: &mut Random, state: &mut Flat) {
