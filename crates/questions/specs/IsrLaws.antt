@@ -48,7 +48,7 @@ module _ (property : Property) (s : State) (r : ℕ) where
   pub compared-below : (m x : ℕ) → x < compared m → x < replicaAt s r .hw
   compared-below m x = below-other (eqb m r) (member (isrByProperty property (replicaAt s r .isr) (s .quorum .isr)) m) (replicaAt s r .hw) x
 
-  asked-of : isrAsked property s r ≡ isrByProperty property (replicaAt s r .isr) (s .quorum .isr)
+  pub asked-of : isrAsked property s r ≡ isrByProperty property (replicaAt s r .isr) (s .quorum .isr)
   unfolding isrAsked isrByProperty
   asked-of = go property
     where

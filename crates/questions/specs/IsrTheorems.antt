@@ -102,7 +102,7 @@ module _ (property : Property) (s : State) (h : rules s ≡ true) where
   isr-within WeakIsr r l = met .s2 .replicas r l .within
   isr-within StrongIsr r l = met .s2 .quorum .within
 
-  asked-member : (r m x : ℕ) → Asked property s r m x → m < replicaCount (s .limits)
+  pub asked-member : (r m x : ℕ) → Asked property s r m x → m < replicaCount (s .limits)
   asked-member r m x a =
       member-within (replicaCount (s .limits)) (isrAsked property s r) (met .s1 .ranges .replicas) (isr-within property r (a .replica)) m (a .member)
 

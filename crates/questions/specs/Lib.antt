@@ -5,3 +5,7 @@ pub mod IsrTheorems
 pub mod OfferTheorems
 pub mod Exposed
 pub mod IsrLaws
+pub mod Doubt
+pub mod DoubtLaws
+pub mod DoubtTheorems
+pub mod DoubtCode

@@ -1,0 +1,126 @@
+-- What an action leaves in doubt: for which leaders, members and offsets weak or strong ISR, where it held before the action, may
+-- fail after it. The judge asks about these alone. Assumes nothing.
+use Prim.Native.Nat.{ℕ, _-_, _≤_, _<_}
+use mathlib.Core.Path.{_≡_}
+use mathlib.Core.Bool.{Bool, true, false, _||_, cond}
+use lib.Dec.{eqb, ltb}
+use Rattle.logic.specs.Tests.{allBelow}
+use Rattle.parts.specs.declared.Leader.{Leader}
+use Rattle.parts.specs.declared.Leader.the-variants.{None, Broker}
+use Rattle.parts.specs.Isr.{member, without, including}
+use Rattle.replica.specs.declared.Replica.{Replica}
+use Rattle.replica.specs.Log.{holdSameRecord}
+use Rattle.cluster.specs.declared.State.{State}
+use Rattle.cluster.specs.declared.Action.{Action}
+use Rattle.cluster.specs.declared.Kind.{Kind}
+use Rattle.cluster.specs.declared.Kind.the-variants.{ControllerShrinkIsr, ControllerElectLeader, BecomeLeader, BecomeFollower, LeaderWrite, LeaderShrinkIsr, LeaderExpandIsr, LeaderIncHighWatermark, FollowerReplicate, Unknown}
+use Rattle.cluster.specs.State.{replicaCount, nextLeaderEpoch, requestAt, replicaAt}
+use Rattle.cluster.specs.Act.{kindOf, uses}
+use Rattle.cluster.specs.Actions.{replicaPresumesLeadership}
+use Rattle.questions.specs.declared.Property.{Property}
+use Rattle.questions.specs.declared.Property.the-variants.{WeakIsr, StrongIsr}
+use Rattle.questions.specs.declared.doubt.Doubt.{Doubt}
+use Rattle.questions.specs.Isr.{isrAsked}
+
+-- ---- what is in doubt
+-- these leaders, each against the members that are not known to agree with it, from this offset on
+abbrev pub doubtOf : ℕ → ℕ → ℕ → Doubt
+doubtOf leaders known from = record { leaders = leaders; known = known; from = from }
+
+-- whether leader r and member m agree at offset x is in doubt
+pub record InDoubt (d : Doubt) (r m x : ℕ) : Type 0 where
+  pub leader : member (d .leaders) r ≡ true
+  pub unknown : member (d .known) m ≡ false
+  pub from : d .from ≤ x
+
+-- all five replicas, and one of them alone, as sets of replicas, which are written as ISRs are
+abbrev pub allFive : ℕ
+allFive = 31
+
+abbrev pub only : ℕ → ℕ
+only a = including 0 a
+
+-- nothing
+abbrev pub noDoubt : Doubt
+noDoubt = doubtOf 0 0 0
+
+-- ---- by kind
+-- kind 2: the leader that the request names, against every member
+unfoldable pub ledDoubt : Leader → Doubt
+ledDoubt None = noDoubt
+ledDoubt (Broker b) = doubtOf (only b) 0 0
+
+-- every leader against the members that the quorum's ISR did not have before
+abbrev pub gainedDoubt : ℕ → Doubt
+gainedDoubt before = doubtOf allFive before 0
+
+-- kind 5, weak: nothing. Strong: nothing where the quorum's ISR before is that of now and b; elsewhere a's ISR, which kind 5 writes
+-- to the quorum, may have members that the quorum's had not
+unfoldable pub shrinkDoubt : Property → ℕ → ℕ → ℕ → Doubt
+shrinkDoubt WeakIsr before now b = noDoubt
+shrinkDoubt StrongIsr before now b = cond (eqb (including now b) before) noDoubt (gainedDoubt before)
+
+-- kind 6, weak: a against b. Strong: every leader against the members that the quorum's ISR gained
+unfoldable pub expandDoubt : Property → ℕ → ℕ → ℕ → Doubt
+expandDoubt WeakIsr before a b = doubtOf (only a) (without allFive b) 0
+expandDoubt StrongIsr before a b = gainedDoubt before
+
+-- kind 3: every leader against a, from the end that a keeps on. Kind 7: a against every member, from the last offset below its new
+-- high watermark on, which is the high watermark that it had. `before` is the quorum's ISR before the action, t the state after it.
+unfoldable pub doubtAfter : Kind → Property → ℕ → State → ℕ → ℕ → ℕ → Doubt
+doubtAfter ControllerShrinkIsr property before t a b e = noDoubt
+doubtAfter ControllerElectLeader property before t a b e = noDoubt
+doubtAfter BecomeLeader property before t a b e = ledDoubt (requestAt t e .leader)
+doubtAfter BecomeFollower property before t a b e = doubtOf allFive (without allFive a) (replicaAt t a .end)
+doubtAfter LeaderWrite property before t a b e = noDoubt
+doubtAfter LeaderShrinkIsr property before t a b e = shrinkDoubt property before (t .quorum .isr) b
+doubtAfter LeaderExpandIsr property before t a b e = expandDoubt property before a b
+doubtAfter LeaderIncHighWatermark property before t a b e = doubtOf (only a) 0 (replicaAt t a .hw - 1)
+doubtAfter FollowerReplicate property before t a b e = noDoubt
+doubtAfter Unknown property before t a b e = noDoubt
+
+abbrev pub doubtAfterAction : Property → ℕ → State → Action → Doubt
+doubtAfterAction property before t action = doubtAfter (kindOf (action .kind)) property before t (action .a) (action .b) (action .e)
+
+-- ---- the narrow test: the property, asked of what is in doubt alone
+-- p and q hold the same record at offset x, unless x is before the offsets in doubt
+unfoldable pub agreeFrom : ℕ → Replica → Replica → ℕ → Bool
+agreeFrom from p q x = ltb x from || holdSameRecord p q x
+
+-- how many offsets of r and m are looked at: those below r's hw, where r presumes, m is a member of the ISR asked about, and the
+-- two are in doubt; else none
+unfoldable pub offsetsInDoubt : Doubt → Property → State → ℕ → ℕ → ℕ
+offsetsInDoubt d property s r m =
+    cond (member (d .leaders) r)
+    (cond (replicaPresumesLeadership s r)
+    (cond (member (d .known) m) 0 (cond (member (isrAsked property s r) m) (replicaAt s r .hw) 0))
+    0)
+    0
+
+-- r and m agree at all of them
+unfoldable pub pairAgrees : Doubt → Property → State → ℕ → ℕ → Bool
+pairAgrees d property s r m = allBelow (offsetsInDoubt d property s r m) (agreeFrom (d .from) (replicaAt s r) (replicaAt s m))
+
+-- r agrees with every member
+unfoldable pub leaderAgrees : Doubt → Property → State → ℕ → Bool
+leaderAgrees d property s r = allBelow (replicaCount (s .limits)) (pairAgrees d property s r)
+
+-- every leader does: the property holds of all that is in doubt
+unfoldable pub holdsInDoubt : Doubt → Property → State → Bool
+holdsInDoubt d property s = allBelow (replicaCount (s .limits)) (leaderAgrees d property s)
+
+-- the narrow test of the state t that an action led to
+abbrev pub holdsAfterAction : Property → ℕ → State → Action → Bool
+holdsAfterAction property before t action = holdsInDoubt (doubtAfterAction property before t action) property t
+
+-- what the test reads of the state t that an action led to is there
+pub record LedTo (t : State) (action : Action) : Type 0 where
+  pub a-below : uses (kindOf (action .kind)) .a ≡ true → action .a < 5
+  pub b-below : uses (kindOf (action .kind)) .b ≡ true → action .b < 5
+  pub sent : kindOf (action .kind) ≡ BecomeLeader → action .e < nextLeaderEpoch t
+  pub raised : kindOf (action .kind) ≡ LeaderIncHighWatermark → 1 ≤ replicaAt t (action .a) .hw
+
+-- ---- what is exposed
+-- the kinds that can expose more: 2 and 7
+unfoldable pub exposesMore : ℕ → Bool
+exposesMore kind = eqb kind 2 || eqb kind 7

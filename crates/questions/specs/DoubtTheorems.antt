@@ -1,0 +1,254 @@
+-- Where weak or strong ISR held before an accepted action, it holds after it exactly where the narrow test does, which asks about
+-- what is in doubt alone; and no kind but 2 and 7 exposes more, or another record. Assumes nothing.
+use Prim.Native.Nat.{ℕ, _≤_, _<_}
+use mathlib.Core.Path.{_≡_, refl, sym, _∙_, ap}
+use mathlib.Core.Bool.{Bool, true, false, _||_, cond}
+use mathlib.Core.Logic.{_↔_, _⊎_, inl, inr}
+use native.Mathlib.Omega.{arith}
+use native.Mathlib.Decide.{decLt}
+use lib.Dec.{ltb}
+use borrow.Author.Tests.{le-ltb, ltb-false, ne-eqb}
+use Rattle.logic.specs.Tests.{allBelow, all-at, all-by, either, bool-ext, sameTruth, same-truth}
+use Rattle.parts.specs.Refusal.{accepted}
+use Rattle.parts.specs.declared.Leader.the-variants.{Broker}
+use Rattle.parts.specs.Isr.{member, without}
+use Rattle.parts.specs.LeaderLaws.{names-iff}
+use Rattle.replica.specs.declared.Record.{Record}
+use Rattle.replica.specs.Replica.{recordAt}
+use Rattle.replica.specs.Log.{holdSameRecord}
+use Rattle.cluster.specs.declared.State.{State}
+use Rattle.cluster.specs.declared.Action.{Action}
+use Rattle.cluster.specs.State.{replicaCount, replicaAt, tidy}
+use Rattle.cluster.specs.Rules.{rules}
+use Rattle.cluster.specs.Predicates.{Rules, rules-iff}
+use Rattle.cluster.specs.Actions.{replicaPresumesLeadership, becomeFollowerRefusal, becomeFollower}
+use Rattle.cluster.specs.Act.{kindOf, actionRefusal, effect}
+use Rattle.cluster.specs.ActLaws.{kind-past}
+use Rattle.cluster.specs.Accepted.{Operands, operands-of, action-accepted, presumes-itself, become-follower-accepted}
+use Rattle.actions.specs.Sound.{Sound, sound-of}
+use Rattle.actions.specs.Kinds.{become-follower-at-sound}
+use Rattle.actions.specs.Kept.{Kept, effect-kept}
+use Rattle.questions.specs.declared.Property.{Property}
+use Rattle.questions.specs.declared.doubt.Doubt.{Doubt}
+use Rattle.questions.specs.Isr.{isrAsked, askIsr}
+use Rattle.questions.specs.IsrLaws.{below-cond, asked-of}
+use Rattle.questions.specs.IsrTheorems.{HoldSameRecord, Asked, Holds, hold-same-at-iff, asked-member, isr-says}
+use Rattle.questions.specs.Exposed.{exposed, exposed-at, exposed-by}
+use Rattle.questions.specs.Doubt.{doubtOf, allFive, InDoubt, LedTo, doubtAfterAction, agreeFrom, offsetsInDoubt, pairAgrees, leaderAgrees, holdsInDoubt, exposesMore}
+use Rattle.questions.specs.DoubtLaws.{Stays, NoMoreExposed, Asks, OnlyInDoubt, exposing, follower-in-doubt, kind-in-doubt, kind-exposed, request-kept, hw-raised}
+
+-- the property holds of all that is in doubt
+abbrev pub HoldsInDoubt : Doubt → Property → State → Type 0
+HoldsInDoubt d property s = (r m x : ℕ) → InDoubt d r m x → Asked property s r m x → HoldSameRecord s r m x
+
+-- a presuming replica has a record of this id below its high watermark
+pub record Exposes (s : State) (id : ℕ) : Type 0 where
+  pub leader : ℕ
+  pub offset : ℕ
+  pub replica : leader < replicaCount (s .limits)
+  pub presumes : replicaAt s leader .leader ≡ Broker leader
+  pub below : offset < replicaAt s leader .hw
+  pub is : recordAt (replicaAt s leader) offset .id ≡ id
+
+-- ---- the test of what is in doubt
+below-unless : (b : Bool) (n m : ℕ) → m < cond b 0 n → (b ≡ false) × (m < n)
+below-unless true n m l = absurd (omega arith)
+below-unless false n m l = (refl, l)
+
+module _ (d : Doubt) (property : Property) (s : State) (h : rules s ≡ true) where
+  abbrev R : ℕ
+  R = replicaCount (s .limits)
+
+  -- what is in doubt and asked about is looked at, and the other way round
+  looked : (r m x : ℕ) → InDoubt d r m x → Asked property s r m x → x < offsetsInDoubt d property s r m
+  unfolding offsetsInDoubt replicaPresumesLeadership
+  looked r m x i a = rw (i .leader, names-iff (replicaAt s r .leader) r .1 (a .presumes), i .unknown, a .member) (a .offset)
+
+  looked-at : (r m x : ℕ) → r < R → x < offsetsInDoubt d property s r m → d .from ≤ x → InDoubt d r m x × Asked property s r m x
+  unfolding offsetsInDoubt
+  looked-at r m x l k from =
+      let led = below-cond (member (d .leaders) r) _ x k in
+      let presuming = below-cond (replicaPresumesLeadership s r) _ x (led .1) in
+      let unknown = below-unless (member (d .known) m) _ x (presuming .1) in
+      let asked = below-cond (member (isrAsked property s r) m) (replicaAt s r .hw) x (unknown .1) in (
+        record { leader = led .0; unknown = unknown .0; from = from },
+        record { replica = l; presumes = presumes-itself s r (presuming .0); member = asked .0; offset = asked .1 },
+      )
+
+  same-from : HoldsInDoubt d property s → (r m x : ℕ) → r < R → m < R → x < offsetsInDoubt d property s r m
+      → agreeFrom (d .from) (replicaAt s r) (replicaAt s m) x ≡ true
+  unfolding agreeFrom
+  same-from f r m x l k u = go (ltb x (d .from)) refl
+    where
+      go : (b : Bool) → ltb x (d .from) ≡ b → b || holdSameRecord (replicaAt s r) (replicaAt s m) x ≡ true
+      go true e = refl
+      go false e =
+          let a = looked-at r m x l u (ltb-false x (d .from) e) in
+          hold-same-at-iff s r m x l k .1 (f r m x (a .0) (a .1))
+
+  pub in-doubt-iff : holdsInDoubt d property s ≡ true ↔ HoldsInDoubt d property s
+  unfolding holdsInDoubt leaderAgrees pairAgrees agreeFrom
+  in-doubt-iff = (
+    (λ e r m x i a.
+        let k = asked-member property s h r m x a in
+        let at = all-at _ (agreeFrom (d .from) (replicaAt s r) (replicaAt s m))
+        (all-at R (pairAgrees d property s r) (all-at R (leaderAgrees d property s) e r (a .replica)) m k) x (looked r m x i a) in
+        hold-same-at-iff s r m x (a .replica) k .0 (either (ltb x (d .from)) _ at (le-ltb x (d .from) (i .from)))),
+    (λ f.
+        all-by R (leaderAgrees d property s)
+        (λ r l.
+        all-by R (pairAgrees d property s r)
+        (λ m k. all-by _ (agreeFrom (d .from) (replicaAt s r) (replicaAt s m)) (λ x u. same-from f r m x l k u)))),
+  )
+
+-- ---- what held before, and what is in doubt: s before, t after
+module _ (property : Property) (d : Doubt) (s t : State) (h : rules s ≡ true) (k : rules t ≡ true) (limits : t .limits ≡ s .limits)
+    (each : (i : ℕ) → i < replicaCount (s .limits) → OnlyInDoubt property d (s .quorum .isr) (t .quorum .isr) (replicaAt s i) (replicaAt t i) i)
+  where
+    met : Rules s
+    met = rules-iff s .0 h
+
+    below : (i : ℕ) → i < replicaCount (t .limits) → i < replicaCount (s .limits)
+    below i l = rw limits at l
+
+    above : (i : ℕ) → i < replicaCount (s .limits) → i < replicaCount (t .limits)
+    above i l = rw limits l
+
+    asks-of : (r m x : ℕ) → Asked property t r m x → Asks property (t .quorum .isr) (replicaAt t r) r m x
+    asks-of r m x a = record { presumes = a .presumes; member = rw (asked-of property t r) at (a .member); offset = a .offset }
+
+    asked-by : (r m x : ℕ) → r < replicaCount (s .limits) → Asks property (s .quorum .isr) (replicaAt s r) r m x → Asked property s r m x
+    asked-by r m x l a =
+        record { replica = l; presumes = a .presumes; member = rw (asked-of property s r) (a .member); offset = a .offset }
+
+    -- a record that both held, in logs that stay
+    carried : (r m x : ℕ) → HoldSameRecord s r m x → Stays (replicaAt s r) (replicaAt t r) x → Stays (replicaAt s m) (replicaAt t m) x
+        → HoldSameRecord t r m x
+    carried r m x same u v =
+        let p = u (same .leader .offset) in
+        let q = v (same .member .offset) in
+        record {
+          leader = record { replica = above r (same .leader .replica); offset = p .0 };
+          member = record { replica = above m (same .member .replica); offset = q .0 };
+          record-same = p .1 ∙ same .record-same ∙ sym (q .1);
+        }
+
+    -- what is not in doubt stays
+    holds-by : Holds property s → HoldsInDoubt d property t → Holds property t
+    holds-by held rest r m x a = go (each r l .asks m x (asks-of r m x a))
+      where
+        l : r < replicaCount (s .limits)
+        l = below r (a .replica)
+
+        on : Stays (replicaAt s r) (replicaAt t r) x → HoldSameRecord s r m x
+            → ((j : ℕ) → j < 5 → InDoubt d j m x) ⊎ Stays (replicaAt s m) (replicaAt t m) x → HoldSameRecord t r m x
+        on u same (inl f) = rest r m x (f r (omega (arith, l, met .s1 .ranges .replicas))) a
+        on u same (inr v) = carried r m x same u v
+
+        go : InDoubt d r m x ⊎ Asks property (s .quorum .isr) (replicaAt s r) r m x × Stays (replicaAt s r) (replicaAt t r) x → HoldSameRecord t r m x
+        go (inl i) = rest r m x i a
+        go (inr (b, u)) = let same = held r m x (asked-by r m x l b) in on u same (each m (same .member .replica) .log x)
+
+    -- so the narrow test decides
+    pub narrow-decides : askIsr property s .holds ≡ true → askIsr property t .holds ≡ holdsInDoubt d property t
+    narrow-decides held =
+        let after = isr-says property t k .holds in
+        let doubt = in-doubt-iff d property t k in
+        bool-ext _ _
+        (λ e. doubt .1 (λ r m x i. after .0 e r m x))
+        (λ e. after .1 (holds-by (isr-says property s h .holds .0 held) (doubt .0 e)))
+
+-- ---- the kinds that can expose more, by their numbers
+exposing-number : (n : ℕ) → exposing (kindOf n) ≡ exposesMore n
+unfolding exposing kindOf exposesMore allBelow sameTruth
+exposing-number n =
+    elim (decLt n 9) [
+      | yes l ↦ same-truth _ _ (all-at 9 (λ (k : ℕ). sameTruth (exposing (kindOf k)) (exposesMore k)) refl n l)
+      | no l ↦ ap exposing (kind-past n (omega arith)) ∙ sym (rw (ne-eqb n 2 (omega arith), ne-eqb n 7 (omega arith)) refl)
+    ]
+
+-- ---- an accepted action on a state that meets the rules and is tidy
+module _ (s : State) (action : Action) (h : rules s ≡ true) (tidied : tidy s ≡ s) (ok : actionRefusal s action ≡ accepted) where
+  abbrev next : State
+  next = effect s action
+
+  sound : Sound (s .limits) s
+  sound = sound-of s h tidied
+
+  kept : Kept s next
+  kept = effect-kept s action h tidied ok
+
+  -- where the property held, it holds next exactly where the narrow test does
+  pub holds-after : (property : Property) → askIsr property s .holds ≡ true
+      → askIsr property next .holds ≡ holdsInDoubt (doubtAfterAction property (s .quorum .isr) next action) property next
+  unfolding effect
+  holds-after property =
+      let p = action-accepted s action ok in
+      narrow-decides property (doubtAfterAction property (s .quorum .isr) next action) s next h (kept .rules) (kept .limits)
+      (kind-in-doubt (s .limits) s sound (kindOf (action .kind)) (action .a) (action .b) (action .e)
+      (operands-of (s .limits) action (p .0) (kindOf (action .kind)) refl) (p .1) property)
+
+  -- what the code reads of the next state is there
+  operands : Operands (s .limits) (kindOf (action .kind)) (action .a) (action .b)
+  operands = operands-of (s .limits) action (action-accepted s action ok .0) (kindOf (action .kind)) refl
+
+  below-five : (i : ℕ) → i < replicaCount (s .limits) → i < 5
+  below-five i l = omega (arith, sound .rules .s1 .ranges .replicas)
+
+  pub led-to : LedTo next action
+  unfolding effect
+  led-to =
+      record {
+        a-below = λ u. below-five (action .a) (operands .a-below u);
+        b-below = λ u. below-five (action .b) (operands .b-below u);
+        sent = λ k. request-kept (s .limits) s sound (kindOf (action .kind)) k (action .a) (action .b) (action .e) (action-accepted s action ok .1);
+        raised = λ k. hw-raised (s .limits) s sound (kindOf (action .kind)) k (action .a) (action .b) (action .e) operands;
+      }
+
+  -- ---- what is exposed, by a kind that is neither 2 nor 7
+  module _ (less : exposesMore (action .kind) ≡ false) where
+    no-more : (r : ℕ) → r < replicaCount (next .limits) → NoMoreExposed (replicaAt s r) (replicaAt next r) r
+    unfolding effect
+    no-more r l =
+        kind-exposed (s .limits) s sound (kindOf (action .kind)) (action .a) (action .b) (action .e) (action-accepted s action ok .1) (exposing-number (action .kind) ∙ less) r
+        (rw (kept .limits) at l)
+
+    pub exposes-no-more : exposed next ≤ exposed s
+    unfolding replicaPresumesLeadership
+    exposes-no-more =
+        exposed-by next (exposed s)
+        (λ r l e.
+        let q = no-more r l in
+        let led = names-iff (replicaAt next r .leader) r .0 e in
+        omega (arith, q .hw led, exposed-at s r (rw (kept .limits) at l) (names-iff (replicaAt s r .leader) r .1 (q .leads led))))
+
+    pub exposes-no-other : (id : ℕ) → Exposes next id → Exposes s id
+    exposes-no-other id x =
+        let q = no-more (x .leader) (x .replica) in
+        let hw = q .hw (x .presumes) in
+        let l : x .leader < replicaCount (s .limits) = rw (kept .limits) at (x .replica) in
+        record {
+          leader = x .leader;
+          offset = x .offset;
+          replica = l;
+          presumes = q .leads (x .presumes);
+          below = omega (arith, hw, x .below);
+          is = ap (λ (w : Record). w .id) (sym (q .log (x .presumes) (x .offset) (omega (arith, hw, x .below, sound .rules .s5 (x .leader) l .hw)) .1)) ∙ x .is;
+        }
+
+-- ---- kind 3, whatever offset the log is cut to
+module _ (s : State) (h : rules s ≡ true) (tidied : tidy s ≡ s) (a e offset : ℕ) (replica : a < replicaCount (s .limits))
+    (ok : becomeFollowerRefusal s a e ≡ accepted)
+  where
+    abbrev cut : State
+    cut = becomeFollower s a e offset
+
+    cut-sound : Sound (s .limits) cut
+    cut-sound = become-follower-at-sound (s .limits) s (sound-of s h tidied) a e offset replica (become-follower-accepted s a e .0 ok .0)
+
+    -- where the property held, it holds of the cut exactly where the test of a from the end that it keeps on does
+    pub holds-after-cut : (property : Property) → askIsr property s .holds ≡ true
+        → askIsr property cut .holds ≡ holdsInDoubt (doubtOf allFive (without allFive a) (replicaAt cut a .end)) property cut
+    holds-after-cut property =
+        narrow-decides property (doubtOf allFive (without allFive a) (replicaAt cut a .end)) s cut h (rules-iff cut .1 (cut-sound .rules)) (cut-sound .limits)
+        (follower-in-doubt (s .limits) s (sound-of s h tidied) property a e offset replica (become-follower-accepted s a e .0 ok .1))
