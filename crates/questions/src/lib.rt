@@ -1,4 +1,5 @@
 // Three questions about a state: weak ISR, strong ISR, and what action it offers; and what it exposes.
+pub mod doubt;
 mod isr;
 mod search;
 
@@ -55,7 +56,7 @@ impl IsrAnswer {
 // What a property answers on a state that is known to meet the rules: they are not tested. The caller shows them. The answer
 // is that of `weak_isr` or `strong_isr`. What the inner loops need is taken out of the state before them: a leader that does not
 // presume has no members to look at, and a replica that is not in the ISR asked about has no offsets.
-pub fn check_isr(property: Property, s: State) -> IsrAnswer
+fn check_isr(property: Property, s: State) -> IsrAnswer
     requires { ⌜ rules s ≡ true ⌝ }
     ensures { λ r. ⌜ r ≡ checkIsr property s ⌝ }
 {

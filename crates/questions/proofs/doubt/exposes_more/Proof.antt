@@ -1,0 +1,16 @@
+use mathlib.Core.Path.{refl}
+use borrow.Author.Tests.{eq-eqb, ne-eqb}
+use Rattle.questions.specs.Doubt.{exposesMore}
+use Rattle.questions.proofs.doubt.exposes_more.Statement.{statement}
+use Rattle.questions.proofs.doubt.exposes_more.Tie as tie
+
+returns : tie.Need-returns
+unfolding exposesMore
+returns c = rw (eq-eqb _ 2 (c .if1 .taken)) refl
+
+returns-2 : tie.Need-returns-2
+unfolding exposesMore
+returns-2 c = rw (ne-eqb _ 2 (c .if1 .left)) refl
+
+pub exposes-more-spec : {M : Type 1} → statement M
+exposes-more-spec = tie.close (tie.spec returns returns-2)
