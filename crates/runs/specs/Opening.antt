@@ -16,6 +16,10 @@ use Rattle.cluster.specs.State.{limitsOf, zeroState, tidy}
 use Rattle.cluster.specs.Rules.{inRange, rules}
 use Rattle.cluster.specs.Fresh.{answer, freshState, fresh}
 use Rattle.cluster.specs.FreshLaws.{fresh-tidy, fresh-rules, fresh-accepted}
+use Rattle.questions.specs.declared.Property.{Property}
+use Rattle.questions.specs.declared.IsrAnswer.{IsrAnswer}
+use Rattle.questions.specs.Isr.{askIsr}
+use Rattle.questions.specs.IsrTheorems.{fresh-holds}
 use Rattle.runs.specs.Run.{recordWidth, longestRun, configurationMark, recordRefusal, recordAnswer, configure, opening, recordsOf, Trace, traceFrom, verdictOf, verdictFrom, judgeBy, judge}
 use Rattle.runs.specs.RecordLaws.{record-short, record-said, record-refused, record-accepted, whole-record}
 
@@ -97,6 +101,12 @@ module _ (run : List ℕ) (ok : opening run .refusal ≡ accepted) where
 
   pub opening-tidy : tidy (firstState run) ≡ firstState run
   opening-tidy = ap tidy opening-state ∙ fresh-tidy (limitsIn run) ∙ sym opening-state
+
+  -- and fails neither weak ISR nor strong ISR
+  pub opening-holds : (property : Property) → askIsr property (firstState run) .holds ≡ true
+  opening-holds property =
+      ap (λ (o : Outcome). askIsr property (o .state) .holds) opening-fresh
+      ∙ ap (λ (a : IsrAnswer). a .holds) (fresh-holds property (limitsIn run) fresh-opened)
 
   -- its verdict is that of its trace
   pub opened : judge run ≡ verdictFrom (firstState run) (traceOf run)

@@ -1,31 +1,57 @@
 // How far a run has come, as it is judged.
 ghost use mathlib.Core.Path.{_≡_};
-ghost use mathlib.Core.Bool.{true};
-ghost use Prim.Native.Nat.{_≤_};
+ghost use mathlib.Core.Bool.{true, false};
+ghost use Prim.Native.Nat.{_≤_, max};
 ghost use Rattle.cluster.specs.State.{zeroState};
 ghost use Rattle.cluster.specs.Rules.{rules};
 ghost use Rattle.questions.specs.Isr.{askIsr};
 ghost use Rattle.questions.specs.Exposed.{exposed};
+ghost use Rattle.questions.specs.Doubt.{LedTo, holdsAfterAction, exposesMore};
 ghost use Rattle.runs.specs.Run.{recordWidth, longestRun, verdictOf};
-ghost use Rattle.runs.specs.Judging.{refusedBy, failedAt, progressOf, soFar, counted};
+ghost use Rattle.runs.specs.Judging.{refusedBy, failedAt, progressOf, soFar, counted, Narrowed};
 use crate::RECORD_WIDTH;
 use crate::Verdict;
+use cluster::Action;
 use cluster::State;
 use questions::Property;
+use questions::doubt;
 
-// How many actions were accepted when a property first failed. Where that is known it stays, and the state is not asked. The
-// caller shows that the state meets the rules.
-fn failed_at(property: Property, known: usize, s: State, count: usize) -> usize
-    requires { ⌜ rules s ≡ true ⌝ }
-    ensures { λ r. ⌜ r ≡ failedAt known (askIsr property s .holds) count ⌝ }
+// How many actions were accepted when a property first failed. Where that is known it stays, and the state is not asked. Otherwise
+// the property held before the action, and the narrow test decides; `before` is the quorum's ISR before the action. The caller shows
+// that the state meets the rules, that what the test reads of it is there, and that the test decides.
+fn failed_at(
+    property: Property,
+    known: usize,
+    before: u8,
+    next: State,
+    action: Action,
+    count: usize,
+) -> usize
+    requires { ⌜ rules next ≡ true ⌝ }
+    requires { ⌜ LedTo next action ⌝ }
+    requires { ⌜ (known ≡ 0 → askIsr property next .holds ≡ holdsAfterAction property before next action) ⌝ }
+    ensures { λ r. ⌜ r ≡ failedAt known (askIsr property next .holds) count ⌝ }
 {
     if known != 0 {
         return known;
     }
-    if questions::check_isr(property, s).holds {
+    if doubt::holds_after(property, before, next, action) {
         return 0;
     }
     count
+}
+
+// The greatest high watermark that was exposed so far, with the state that an action of this kind led to. The state is asked only
+// after a kind that can expose more. The caller shows that the state meets the rules, and that the other kinds expose no more.
+fn exposed_so_far(known: u8, next: State, kind: u8) -> u8
+    requires { ⌜ rules next ≡ true ⌝ }
+    requires { ⌜ (exposesMore kind ≡ false → exposed next ≤ known) ⌝ }
+    ensures { λ r. ⌜ r ≡ max known (exposed next) ⌝ }
+{
+    if doubt::exposes_more(kind) {
+        return parts::larger(known, questions::exposed(next));
+    }
+    known
 }
 
 // How far a run has come beside its last state: how many actions were accepted; the byte where the next record starts; how many
@@ -54,23 +80,31 @@ impl Progress {
         }
     }
 
-    // One accepted action more, which handed back a state. The caller shows that the state meets the rules, and that no count is
-    // past the longest run.
-    pub(crate) fn after(self, next: State) -> Progress
+    // One accepted action more, which handed back a state. The caller shows that the state meets the rules, that no count is past
+    // the longest run, and that the narrow test decides what has not failed.
+    pub(crate) fn after(self, before: u8, next: State, action: Action) -> Progress
         requires { ⌜ rules next ≡ true ⌝ }
         requires { ⌜ self .accepted ≤ longestRun ⌝ }
         requires { ⌜ self .at ≤ longestRun ⌝ }
+        requires { ⌜ Narrowed self before next action ⌝ }
         ensures { λ r. ⌜ r ≡ counted self next ⌝ }
     {
         let count = self.accepted + 1;
-        let weak = failed_at(Property::WeakIsr, self.weak, next, count);
-        let strong = failed_at(Property::StrongIsr, self.strong, next, count);
+        let weak = failed_at(Property::WeakIsr, self.weak, before, next, action, count);
+        let strong = failed_at(
+            Property::StrongIsr,
+            self.strong,
+            before,
+            next,
+            action,
+            count,
+        );
         Progress {
             accepted: count,
             at: self.at + RECORD_WIDTH,
             weak: weak,
             strong: strong,
-            exposed: parts::larger(self.exposed, questions::exposed(next)),
+            exposed: exposed_so_far(self.exposed, next, action.kind),
         }
     }
 

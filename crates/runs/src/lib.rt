@@ -8,7 +8,7 @@ ghost use Prim.Native.Nat.{_≤_};
 ghost use lib.ListN.{length};
 ghost use Rattle.cluster.specs.State.{tidy};
 ghost use Rattle.cluster.specs.Rules.{rules};
-ghost use Rattle.runs.specs.Run.{recordWidth, longestRun, recordsOf, traceFrom, verdictFrom, judge};
+ghost use Rattle.runs.specs.Run.{recordWidth, longestRun, recordsOf, traceFrom, weakHolds, strongHolds, verdictFrom, judge};
 use crate::judging::Progress;
 use cluster::State;
 use parts::refusal::ACCEPTED;
@@ -52,14 +52,17 @@ pub fn judge(run: &[u8]) -> Verdict
     judge_actions(run, first.state)
 }
 
-// The verdict from the configuration's fresh state on. The caller shows that the run is neither too long nor too short, and that
-// the state meets the rules and is tidy. Each record goes to its readers as its own part of the run; the rules are not tested
-// and no room is tidied again, since an accepted action keeps both.
+// The verdict from the configuration's fresh state on. The caller shows that the run is neither too long nor too short, that the
+// state meets the rules and is tidy, and that weak and strong ISR hold of it. Each record goes to its readers as its own part of the
+// run; the rules are not tested and no room is tidied again, since an accepted action keeps both; weak and strong ISR are asked only
+// of what the action can have changed.
 fn judge_actions(run: &[u8], fresh: State) -> Verdict
     requires { ⌜ length (now run) ≤ longestRun ⌝ }
     requires { ⌜ recordWidth ≤ length (now run) ⌝ }
     requires { ⌜ rules fresh ≡ true ⌝ }
     requires { ⌜ tidy fresh ≡ fresh ⌝ }
+    requires { ⌜ weakHolds fresh ≡ true ⌝ }
+    requires { ⌜ strongHolds fresh ≡ true ⌝ }
     ensures { λ r. ⌜ r ≡ verdictFrom fresh (traceFrom fresh recordWidth (recordsOf (now (run .entry)))) ⌝ }
 {
     let mut state = fresh;
@@ -74,8 +77,9 @@ fn judge_actions(run: &[u8], fresh: State) -> Verdict
             return progress.verdict(refusal, state);
         }
         let action = record::action_of(&run[at..at + RECORD_WIDTH]);
+        let quorum = state.quorum;
         state = state.effect(action);
-        progress = progress.after(state);
+        progress = progress.after(quorum.isr, state, action);
     }
     progress.verdict(ACCEPTED, state)
 }

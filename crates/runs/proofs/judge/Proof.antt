@@ -7,7 +7,8 @@ use Rattle.parts.specs.Refusal.{accepted}
 use Rattle.cluster.specs.declared.Outcome.{Outcome}
 use Rattle.cluster.specs.State.{zeroState}
 use Rattle.runs.specs.Run.{recordWidth, opening, recordsOf, traceFrom, verdictOf, verdictFrom, judge}
-use Rattle.runs.specs.Opening.{opening-too-long, opening-too-short, opening-configures, opening-rules, opening-tidy, opened, unopened}
+use Rattle.questions.specs.declared.Property.the-variants.{WeakIsr, StrongIsr}
+use Rattle.runs.specs.Opening.{opening-too-long, opening-too-short, opening-configures, opening-rules, opening-tidy, opening-holds, opened, unopened}
 use Rattle.runs.proofs.judge.Statement.{statement}
 use Rattle.runs.proofs.judge.Tie as tie
 
@@ -63,7 +64,7 @@ judge-actions-requires c κs =
     let run = z .before .before .before .before .before .args .run .now in
     let e = configured z in
     let ok : opening run .refusal ≡ accepted = ap (λ (o : Outcome). o .refusal) e ∙ c .if3 .left in
-    (omega arith, (omega arith, (rw (← e) (opening-rules run ok), rw (← e) (opening-tidy run ok))))
+    (omega arith, (omega arith, (rw (← e) (opening-rules run ok), (rw (← e) (opening-tidy run ok), (rw (← e) (opening-holds run ok WeakIsr), rw (← e) (opening-holds run ok StrongIsr))))))
 
 returns-4 : tie.Need-returns-4
 returns-4 c =

@@ -17,14 +17,14 @@ use Rattle.runs.specs.declared.judging.Progress.{Progress}
 use Rattle.runs.specs.declared.Verdict.{Verdict}
 use Rattle.runs.specs.Run.{recordWidth, actionMark, actionIn, recordsOf, traceFrom, verdictFrom, actOn}
 use Rattle.runs.specs.RecordLaws.{record-short, unread, accepted-number, accepted-state, act-on-kept}
-use Rattle.runs.specs.Judging.{refusedBy, after, soFar, counted-so-far, fromHere, recordHere, here-begun, here-end, here-refused, here-on}
+use Rattle.runs.specs.Judging.{ZeroMeansHolds, zero-begun, narrowed, zero-after, refusedBy, after, soFar, counted-so-far, fromHere, recordHere, here-begun, here-end, here-refused, here-on}
 use Rattle.runs.proofs.judge_actions.Statement.{statement}
 use Rattle.runs.proofs.judge_actions.Tie as tie
 
--- the state meets the rules and is tidy, and the verdict from here is that of the run
+-- the state meets the rules and is tidy, what is known of it, and the verdict from here is that of the run
 abbrev Inv-loop : tie.InvT-loop
 Inv-loop run state₀ progress₀ state progress =
-    (progress .at ≤ length run) × (progress .accepted ≤ progress .at) × (rules state ≡ true) × (tidy state ≡ state)
+    (progress .at ≤ length run) × (progress .accepted ≤ progress .at) × (rules state ≡ true) × (tidy state ≡ state) × ZeroMeansHolds progress state
     × (fromHere (soFar progress₀ state₀) run ≡ fromHere (soFar progress state) run)
 
 abbrev μ-loop : tie.MeasureT-loop
@@ -47,7 +47,7 @@ whole z =
     let fresh = z .before .before .before .args .fresh in
     here-begun fresh (runAt z)
     ∙ ap (λ (p : Progress). fromHere (soFar p fresh) (runAt z)) (sym (z .before .begun .ensures))
-    ∙ z .loop .inv .4
+    ∙ z .loop .inv .5
 
 -- the part of the run that the readers take is that record, and has six bytes
 part : (z : tie.At-loop Inv-loop μ-loop) → take (here z .at + recordWidth - here z .at) (drop (here z .at) (runAt z)) ≡ nextAt z
@@ -66,8 +66,14 @@ loop-holds : tie.Need-loop-holds Inv-loop μ-loop
 loop-holds c =
     let e = c .begun .ensures in
     let at : c .begun .result .at ≡ recordWidth = ap (λ (p : Progress). p .at) e in
-    let count : c .begun .result .accepted ≡ 0 = ap (λ (p : Progress). p .accepted) e in
-    (omega arith, omega arith, search needs, search needs, refl)
+    let count : c .begun .result .accepted ≡ 0 = ap (λ (p : Progress). p .accepted) e in (
+      omega arith,
+      omega arith,
+      search needs,
+      search needs,
+      rw e (zero-begun (c .before .before .args .fresh) (c .before .before .pre .1 .1 .1 .1 .0) (c .before .before .pre .1 .1 .1 .1 .1)),
+      refl,
+    )
 
 sub-if2 : tie.Need-sub-if2 Inv-loop μ-loop
 sub-if2 c = search needs
@@ -142,32 +148,45 @@ action z = z .action-of .ensures ∙ ap actionIn (part (z .before .before .befor
 ok : (z : tie.After-action-of Inv-loop μ-loop) → let l = z .before .before .before .before .before .before .before .before in actOn (here l .state) (nextAt l) .refusal ≡ accepted
 ok z = sym (number (z .before .before .before)) ∙ z .before .before .if3 .left
 
+-- the action is not refused
+allowed : (z : tie.After-action-of Inv-loop μ-loop)
+    → let l = z .before .before .before .before .before .before .before .before in actionRefusal (here l .state) (z .action-of .result) ≡ accepted
+allowed z =
+    let l = z .before .before .before .before .before .before .before .before in
+    ap (actionRefusal (here l .state)) (action z) ∙ accepted-number (here l .state) (nextAt l) (l .loop .inv .2) (l .loop .inv .3) (ok z)
+
 effect-requires : tie.Need-effect-requires Inv-loop μ-loop
-effect-requires c κs =
-    let l = c .before .before .before .before .before .before .before .before in (
-      l .loop .inv .2,
-      ap (actionRefusal (here l .state)) (action c) ∙ accepted-number (here l .state) (nextAt l) (l .loop .inv .2) (l .loop .inv .3) (ok c),
-    )
+effect-requires c κs = (c .before .before .before .before .before .before .before .before .before .loop .inv .2, allowed (c .before))
 
 -- the state is the one that the record hands back; it meets the rules and is tidy
-handed : (z : tie.After-effect Inv-loop μ-loop) → let l = z .before .before .before .before .before .before .before .before .before in z .effect .result ≡ actOn (here l .state) (nextAt l) .state
+handed : (z : tie.After-effect Inv-loop μ-loop) → let l = z .before .before .before .before .before .before .before .before .before .before in z .effect .result ≡ actOn (here l .state) (nextAt l) .state
 handed z =
-    let l = z .before .before .before .before .before .before .before .before .before in
-    z .effect .ensures ∙ ap (effect (here l .state)) (action (z .before))
-    ∙ accepted-state (here l .state) (nextAt l) (l .loop .inv .2) (l .loop .inv .3) (ok (z .before))
+    let l = z .before .before .before .before .before .before .before .before .before .before in
+    z .effect .ensures ∙ ap (effect (here l .state)) (action (z .before .before))
+    ∙ accepted-state (here l .state) (nextAt l) (l .loop .inv .2) (l .loop .inv .3) (ok (z .before .before))
 
-kept : (z : tie.After-effect Inv-loop μ-loop) → let l = z .before .before .before .before .before .before .before .before .before in Kept (here l .state) (z .effect .result)
+kept : (z : tie.After-effect Inv-loop μ-loop) → let l = z .before .before .before .before .before .before .before .before .before .before in Kept (here l .state) (z .effect .result)
 kept z =
-    let l = z .before .before .before .before .before .before .before .before .before in
+    let l = z .before .before .before .before .before .before .before .before .before .before in
     rw (handed z) (act-on-kept (here l .state) (nextAt l) (l .loop .inv .2) (l .loop .inv .3))
 
 after-requires : tie.Need-after-requires Inv-loop μ-loop
-after-requires c κs = (kept c .rules, (omega arith, omega arith))
+after-requires c κs =
+    let l = c .before .before .before .before .before .before .before .before .before .before in (
+      kept c .rules,
+      (
+        omega arith,
+        (
+          omega arith,
+          rw (c .effect .ensures) (narrowed (l .loop .progress) (l .loop .state) (c .before .before .action-of .result) (l .loop .inv .4) (l .loop .inv .2) (l .loop .inv .3) (allowed (c .before .before))),
+        ),
+      ),
+    )
 
 -- it is the verdict after one action more
-one-more : (z : tie.After-after Inv-loop μ-loop) → let l = z .before .before .before .before .before .before .before .before .before .before in let s = z .before .effect .result in soFar (z .after .result) s ≡ after (here l) s
+one-more : (z : tie.After-after Inv-loop μ-loop) → let l = z .before .before .before .before .before .before .before .before .before .before .before in let s = z .before .effect .result in soFar (z .after .result) s ≡ after (here l) s
 one-more z =
-    let l = z .before .before .before .before .before .before .before .before .before .before in
+    let l = z .before .before .before .before .before .before .before .before .before .before .before in
     let s = z .before .effect .result in
     ap (λ (p : Progress). soFar p s) (z .after .ensures) ∙ counted-so-far (l .loop .progress) s (l .loop .state)
 
@@ -178,16 +197,18 @@ loop-less c =
 
 loop-again : tie.Need-loop-again Inv-loop μ-loop
 loop-again c =
-    let z = c .before .before .before .before .before .before .before .before .before .before in
+    let z = c .before .before .before .before .before .before .before .before .before .before .before in
     let e = one-more c in
     let at : c .after .result .at ≡ here z .at + recordWidth = ap (λ (v : Verdict). v .at) e in
-    let count : c .after .result .accepted ≡ here z .accepted + 1 = ap (λ (v : Verdict). v .accepted) e in (
-      omega arith,
+    let count : c .after .result .accepted ≡ here z .accepted + 1 = ap (λ (v : Verdict). v .accepted) e in
+    let whole = c .before .before .before .before .before .before .before .before .if2 .left in (
+      omega (arith, whole),
       omega arith,
       kept (c .before) .rules,
       kept (c .before) .tidy,
-      z .loop .inv .4
-          ∙ here-on (here z) (runAt z) (omega arith) (ok (c .before .before))
+      rw (c .after .ensures) (zero-after (z .loop .progress) (c .before .effect .result)),
+      z .loop .inv .5
+          ∙ here-on (here z) (runAt z) (omega (arith, whole)) (ok (c .before .before .before))
           ∙ ap (λ (v : Verdict). fromHere v (runAt z)) (sym (e ∙ ap (after (here z)) (handed (c .before)))),
     )
 
