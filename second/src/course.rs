@@ -53,6 +53,20 @@ const ISR_CHANGES: Stretch = Stretch {
     unheard: false,
     stale: false,
 };
+/// Followers catch up with a leader, whose ISR seldom changes. The controller rests.
+const CATCHING_UP: Stretch = Stretch {
+    weights: [0, 0, 4, 8, 6, 1, 2, 4, 16],
+    late: false,
+    unheard: false,
+    stale: false,
+};
+/// The controller alone acts, and mostly elects.
+const ELECTION: Stretch = Stretch {
+    weights: [1, 9, 0, 0, 0, 0, 0, 0, 0],
+    late: false,
+    unheard: false,
+    stale: false,
+};
 
 const STRETCHES: [Stretch; 6] = [
     STEADY,
@@ -361,9 +375,15 @@ pub fn any_action(random: &mut Random, state: &Flat) -> Action {
     action
 }
 
-/// A run of about so many actions; nearly all are accepted, in many runs all.
+/// A run of about so many actions, of any configuration.
 pub fn run(random: &mut Random, actions: usize) -> Vec<u8> {
-    let mut course = Course::begin(configuration(random));
+    let configuration = configuration(random);
+    run_of(random, configuration, actions)
+}
+
+/// A run of about so many actions; nearly all are accepted, in many runs all.
+pub fn run_of(random: &mut Random, configuration: [u8; 4], actions: usize) -> Vec<u8> {
+    let mut course = Course::begin(configuration);
     let (risky, paced) = (random.one_in(3), !random.one_in(3));
     let mut stretch = random.pick(&STRETCHES);
     while course.accepted < actions {
@@ -458,6 +478,26 @@ pub fn isr_changes_run(random: &mut Random, configuration: [u8; 4], actions: usi
         let other = random.within(0, configuration[0] - 1);
         let kind = random.within(5, 6);
         course.try_action([kind, leader, other, 0]);
+    }
+    course
+}
+
+/// A run of accepted actions in which few change an ISR, of so many actions, or fewer where the
+/// epochs are used up before. With each new leader the followers lose what lies above their hw and
+/// replicate anew, so hws are kept low: then an epoch gives each follower much to replicate.
+pub fn catching_up_run(random: &mut Random, configuration: [u8; 4], actions: usize) -> Course {
+    let mut course = Course::begin(configuration);
+    while course.accepted < actions {
+        let (next, epochs) = (course.state[NEXT_EPOCH], course.state[X] + 1);
+        let due = usize::from(next) * actions <= course.accepted * usize::from(epochs);
+        let mut stretch = CATCHING_UP;
+        if course.greatest_hw() > next / 2 {
+            stretch.weights[7] = 0;
+        }
+        let elected = due && course.likely(random, &ELECTION);
+        if !elected && !course.likely(random, &stretch) && !course.likely(random, &ELECTION) {
+            break;
+        }
     }
     course
 }
