@@ -1,11 +1,12 @@
 -- The loops that test what is in doubt take a few numbers out of the state, and go by these. Assumes nothing.
 use Prim.Native.Nat.{ℕ, _≤_, _<_}
-use mathlib.Core.Path.{_≡_, refl, sym, ap}
+use mathlib.Core.Path.{_≡_, refl, sym, ap, _∙_}
 use mathlib.Core.Bool.{Bool, true, false, _||_, cond}
 use native.Mathlib.Omega.{arith}
-use lib.Dec.{ltb}
-use borrow.Author.Tests.{lt-ltb, le-ltb}
-use Rattle.logic.specs.Tests.{allBelow, all-at, all-by, all-fails}
+use native.Mathlib.Decide.{decLt}
+use lib.Dec.{eqb, ltb}
+use borrow.Author.Tests.{lt-ltb, le-ltb, ne-eqb}
+use Rattle.logic.specs.Tests.{allBelow, all-at, all-by, all-fails, sameTruth, same-truth}
 use Rattle.parts.specs.Isr.{member}
 use Rattle.parts.specs.IsrLaws.{member-none}
 use Rattle.parts.specs.Leader.{names}
@@ -14,10 +15,12 @@ use Rattle.replica.specs.Log.{holdSameRecord}
 use Rattle.cluster.specs.declared.State.{State}
 use Rattle.cluster.specs.State.{replicaCount, replicaAt}
 use Rattle.cluster.specs.Actions.{replicaPresumesLeadership}
+use Rattle.cluster.specs.Act.{kindOf}
+use Rattle.cluster.specs.ActLaws.{kind-past}
 use Rattle.questions.specs.declared.Property.{Property}
 use Rattle.questions.specs.declared.doubt.Doubt.{Doubt}
 use Rattle.questions.specs.IsrLaws.{isrByProperty, below-cond, asked-of}
-use Rattle.questions.specs.Doubt.{agreeFrom, offsetsInDoubt, pairAgrees, leaderAgrees, holdsInDoubt}
+use Rattle.questions.specs.Doubt.{agreeFrom, offsetsInDoubt, pairAgrees, leaderAgrees, holdsInDoubt, exposing}
 
 -- ---- the loop over the offsets, which starts at the first in doubt
 module _ (from : ℕ) (p q : Replica) where
@@ -48,10 +51,10 @@ module _ (d : Doubt) (property : Property) (s : State) (r : ℕ) where
   membersOf = cond (member (d .leaders) r) (cond (names (replicaAt s r .leader) r) (replicaCount (s .limits)) 0) 0
 
   abbrev pub offsetsOf : ℕ → ℕ
-  offsetsOf m = cond (member (d .known) m) 0 (cond (member (isrByProperty property (replicaAt s r .isr) (s .quorum .isr)) m) (replicaAt s r .hw) 0)
+  offsetsOf m = cond (member (d .agreeing) m) 0 (cond (member (isrByProperty property (replicaAt s r .isr) (s .quorum .isr)) m) (replicaAt s r .hw) 0)
 
   pub offsets-below : (m : ℕ) → offsetsOf m ≤ replicaAt s r .hw
-  offsets-below m = go (member (d .known) m) (member (isrByProperty property (replicaAt s r .isr) (s .quorum .isr)) m)
+  offsets-below m = go (member (d .agreeing) m) (member (isrByProperty property (replicaAt s r .isr) (s .quorum .isr)) m)
     where
       go : (b c : Bool) → cond b 0 (cond c (replicaAt s r .hw) 0) ≤ replicaAt s r .hw
       go true c = omega arith
@@ -95,3 +98,12 @@ no-leader-in-doubt d property s e =
     sym
     (all-by (replicaCount (s .limits)) (leaderAgrees d property s)
     (λ r l. all-by (replicaCount (s .limits)) (pairAgrees d property s r) (λ m k. rw (e, member-none r) refl)))
+
+-- the kinds that can expose more, by their numbers
+pub exposing-number : (n : ℕ) → exposing (kindOf n) ≡ eqb n 2 || eqb n 7
+unfolding exposing kindOf allBelow sameTruth
+exposing-number n =
+    elim (decLt n 9) [
+      | yes l ↦ same-truth _ _ (all-at 9 (λ (k : ℕ). sameTruth (exposing (kindOf k)) (eqb k 2 || eqb k 7)) refl n l)
+      | no l ↦ ap exposing (kind-past n (omega arith)) ∙ sym (rw (ne-eqb n 2 (omega arith), ne-eqb n 7 (omega arith)) refl)
+    ]

@@ -1,5 +1,5 @@
--- The law of what an accepted action can change, replica by replica and kind by kind, once for weak and strong ISR: where they may
--- fail that held before, and who may expose more. Assumes nothing.
+-- The law of what an accepted action can change, replica by replica and kind by kind, once for weak and strong ISR: where either may
+-- fail after it held, and who may expose more. Assumes nothing.
 use Prim.Native.Nat.{ℕ, _+_, _-_, _≤_, _<_, min}
 use mathlib.Core.Path.{_≡_, refl, sym, _∙_, ap}
 use mathlib.Core.Bool.{Bool, true, false, not, _&&_, _||_, cond}
@@ -39,7 +39,7 @@ use Rattle.questions.specs.declared.Property.{Property}
 use Rattle.questions.specs.declared.Property.the-variants.{WeakIsr, StrongIsr}
 use Rattle.questions.specs.declared.doubt.Doubt.{Doubt}
 use Rattle.questions.specs.IsrLaws.{isrByProperty}
-use Rattle.questions.specs.Doubt.{doubtOf, InDoubt, allFive, only, noDoubt, gainedDoubt, ledDoubt, shrinkDoubt, expandDoubt, doubtAfter}
+use Rattle.questions.specs.Doubt.{doubtOf, InDoubt, allFive, only, noDoubt, gainedDoubt, ledDoubt, cutDoubt, shrinkDoubt, expandDoubt, raisedDoubt, doubtAfter, exposing}
 
 -- ---- sets
 pub member-all : (i : ℕ) → i < 5 → member allFive i ≡ true
@@ -67,14 +67,14 @@ pub record NoMoreExposed (p q : Replica) (i : ℕ) : Type 0 where
   pub hw : q .leader ≡ Broker i → q .hw ≤ p .hw
   pub log : q .leader ≡ Broker i → (x : ℕ) → Stays p q x
 
--- p as r asks about m at offset x, where the quorum has this ISR
+-- replica p, named r, asks about member m at offset x; the quorum has this ISR
 pub record Asks (property : Property) (quorum : ℕ) (p : Replica) (r m x : ℕ) : Type 0 where
   pub presumes : p .leader ≡ Broker r
   pub member : member (isrByProperty property (p .isr) quorum) m ≡ true
   pub offset : x < p .hw
 
--- only what is in doubt is new: what q asks about as a leader and is not in doubt, p asked about, and its log stays there; and as a
--- member its log stays wherever not every leader is in doubt with it
+-- only what is in doubt is new. As a leader: what q asks about is in doubt, or p asked about it and the log is the same there. As a
+-- member: at each offset every leader is in doubt about q, or q's log is the same there.
 pub record OnlyInDoubt (property : Property) (d : Doubt) (before after : ℕ) (p q : Replica) (i : ℕ) : Type 0 where
   pub asks : (m x : ℕ) → Asks property after q i m x → InDoubt d i m x ⊎ Asks property before p i m x × Stays p q x
   pub log : (x : ℕ) → ((r : ℕ) → r < 5 → InDoubt d r i x) ⊎ Stays p q x
@@ -90,12 +90,12 @@ longer-log p w x l = (omega arith, getD-set-other (p .log) (p .end) x w zeroReco
 same-exposed : (p : Replica) (i : ℕ) → NoMoreExposed p p i
 same-exposed p i = record { leads = λ q. q; hw = λ q. omega arith; log = λ q. same-log p }
 
--- and of one that does not presume
+-- a replica that does not presume exposes nothing
 follower-exposed : (p q : Replica) (i : ℕ) → (q .leader ≡ Broker i → ⊥) → NoMoreExposed p q i
 follower-exposed p q i other = record { leads = λ e. absurd (other e); hw = λ e. absurd (other e); log = λ e. absurd (other e) }
 
 module _ (property : Property) (d : Doubt) (before after : ℕ) where
-  -- m is in doubt, or was in the ISR before
+  -- each member asked about after is in doubt, or was asked about before
   abbrev GainsInDoubt : Replica → Replica → ℕ → Type 0
   GainsInDoubt p q i = (m x : ℕ) → member (isrByProperty property (q .isr) after) m ≡ true
       → InDoubt d i m x ⊎ member (isrByProperty property (p .isr) before) m ≡ true
@@ -113,7 +113,7 @@ module _ (property : Property) (d : Doubt) (before after : ℕ) where
             no-more .log (a .presumes) x,
           )
 
-  -- of one that does not presume, its log decides
+  -- where q does not presume, only its log can bring something new
   follower-in-doubt-by : (p q : Replica) (i : ℕ) → (q .leader ≡ Broker i → ⊥) → ((x : ℕ) → ((r : ℕ) → r < 5 → InDoubt d r i x) ⊎ Stays p q x)
       → OnlyInDoubt property d before after p q i
   follower-in-doubt-by p q i other log = record { asks = λ m x a. absurd (other (a .presumes)); log = log }
@@ -121,14 +121,14 @@ module _ (property : Property) (d : Doubt) (before after : ℕ) where
   same-in-doubt : (p : Replica) (i : ℕ) → GainsInDoubt p p i → OnlyInDoubt property d before after p p i
   same-in-doubt p i gains = in-doubt-by p p i (same-exposed p i) gains (λ x. inr (same-log p x))
 
--- no ISR gains a member where the quorum's does not
+-- where the quorum's ISR gains no member, none is newly asked about
 fewer : (property : Property) (d : Doubt) (before after : ℕ) → ((m : ℕ) → member after m ≡ true → member before m ≡ true)
     → (p : Replica) (i : ℕ) → GainsInDoubt property d before after p p i
 unfolding isrByProperty
 fewer WeakIsr d before after f p i m x h = inr h
 fewer StrongIsr d before after f p i m x h = inr (f m h)
 
--- the quorum's ISR as it was
+-- a replica that stays, under the same quorum's ISR
 unmoved : (property : Property) (d : Doubt) (quorum : ℕ) (p : Replica) (i : ℕ) → OnlyInDoubt property d quorum quorum p p i
 unmoved property d quorum p i = same-in-doubt property d quorum quorum p i (λ m x h. inr h)
 
@@ -140,7 +140,7 @@ gained before m i x l = go (member before m) refl
     go true e = inr e
     go false e = inl (record { leader = member-all i l; unknown = e; from = omega arith })
 
--- as kind 5 asks: none where the ISR now, with b, is that before
+-- as kind 5 asks: none where the quorum's ISR only lost b
 gained-unless : (before now b m i x : ℕ) → i < 5 → member now m ≡ true
     → InDoubt (cond (eqb (including now b) before) noDoubt (gainedDoubt before)) i m x ⊎ member before m ≡ true
 gained-unless before now b m i x l h = go (eqb (including now b) before) refl
@@ -149,20 +149,7 @@ gained-unless before now b m i x l h = go (eqb (including now b) before) refl
     go true e = inr (rw (eqb-true (including now b) before e) at (stays-including now b m h))
     go false e = gained before m i x l
 
--- the kinds that can expose more
-unfoldable pub exposing : Kind → Bool
-exposing ControllerShrinkIsr = false
-exposing ControllerElectLeader = false
-exposing BecomeLeader = true
-exposing BecomeFollower = false
-exposing LeaderWrite = false
-exposing LeaderShrinkIsr = false
-exposing LeaderExpandIsr = false
-exposing LeaderIncHighWatermark = true
-exposing FollowerReplicate = false
-exposing Unknown = false
-
--- ---- a state that meets the rules, with one replica put anew
+-- ---- a state that meets the rules, with one replica replaced
 module _ (c : Limits) (s : State) (sound : Sound c s) where
   met : Rules s
   met = sound .rules
@@ -179,13 +166,13 @@ module _ (c : Limits) (s : State) (sound : Sound c s) where
   room : (i : ℕ) → i < R → i < length (s .replicas)
   room i l = omega (arith, sound .tidy .replicas .room, below-five i l)
 
-  -- what holds of the replica put anew, and of each other as it is, holds of every replica
+  -- what holds of the replaced replica, and of each other as it is, holds of every replica
   put-each : (P : Replica → Replica → ℕ → Type 0) (a : ℕ) (p : Replica) → P (replicaAt s a) p a
       → ((i : ℕ) → i < R → P (replicaAt s i) (replicaAt s i) i)
       → (i : ℕ) → i < R → P (replicaAt s i) (replicaIn (set (s .replicas) a p) i) i
   put-each P a p own others i l = each-set (λ q j. P (replicaAt s j) q j) (s .replicas) a p noReplica own i (room i l) (λ q. others i l)
 
-  -- the replica put anew is read back
+  -- the new replica is read back
   put-read : (a : ℕ) (p : Replica) → a < R → replicaIn (set (s .replicas) a p) a ≡ p
   put-read a p l = getD-set-same (s .replicas) a p noReplica (room a l)
 
@@ -239,7 +226,7 @@ module _ (c : Limits) (s : State) (sound : Sound c s) where
       ]
 
   pub follower-in-doubt : (property : Property) (a e offset : ℕ) → a < R → names (requestAt s e .leader) a ≡ false → (i : ℕ) → i < R
-      → OnlyInDoubt property (doubtOf allFive (without allFive a) (replicaAt (becomeFollower s a e offset) a .end)) quorumIsr (becomeFollower s a e offset .quorum .isr) (replicaAt s i) (replicaAt (becomeFollower s a e offset) i) i
+      → OnlyInDoubt property (cutDoubt (becomeFollower s a e offset) a) quorumIsr (becomeFollower s a e offset .quorum .isr) (replicaAt s i) (replicaAt (becomeFollower s a e offset) i) i
   unfolding becomeFollower withReplica
   follower-in-doubt property a e offset l other =
       put-each (OnlyInDoubt property d quorumIsr quorumIsr) a q
@@ -312,7 +299,7 @@ module _ (c : Limits) (s : State) (sound : Sound c s) where
 
   -- ---- kind 7: a asks about one offset more
   raise-in-doubt : (property : Property) (a : ℕ) → a < R → (i : ℕ) → i < R
-      → OnlyInDoubt property (doubtOf (only a) 0 (replicaAt (leaderIncHighWatermark s a) a .hw - 1)) quorumIsr (leaderIncHighWatermark s a .quorum .isr) (replicaAt s i) (replicaAt (leaderIncHighWatermark s a) i) i
+      → OnlyInDoubt property (raisedDoubt (leaderIncHighWatermark s a) a) quorumIsr (leaderIncHighWatermark s a .quorum .isr) (replicaAt s i) (replicaAt (leaderIncHighWatermark s a) i) i
   unfolding leaderIncHighWatermark withReplica withHw
   raise-in-doubt property a l = put-each (OnlyInDoubt property d quorumIsr quorumIsr) a q own (λ j k. unmoved property d quorumIsr (replicaAt s j) j)
     where

@@ -1,53 +1,57 @@
 -- Where weak or strong ISR held before an accepted action, it holds after it exactly where the narrow test does, which asks about
 -- what is in doubt alone; and no kind but 2 and 7 exposes more, or another record. Assumes nothing.
-use Prim.Native.Nat.{ℕ, _≤_, _<_}
+use Prim.Native.Nat.{ℕ, zero, suc, _≤_, _<_}
 use mathlib.Core.Path.{_≡_, refl, sym, _∙_, ap}
 use mathlib.Core.Bool.{Bool, true, false, _||_, cond}
 use mathlib.Core.Logic.{_↔_, _⊎_, inl, inr}
 use native.Mathlib.Omega.{arith}
-use native.Mathlib.Decide.{decLt}
 use lib.Dec.{ltb}
-use borrow.Author.Tests.{le-ltb, ltb-false, ne-eqb}
-use Rattle.logic.specs.Tests.{allBelow, all-at, all-by, either, bool-ext, sameTruth, same-truth}
+use borrow.Author.Tests.{le-ltb, ltb-false, not-false}
+use Rattle.logic.specs.Tests.{all-at, all-by, either, bool-ext}
+use Rattle.logic.specs.Refuse.{refuse-zero}
 use Rattle.parts.specs.Refusal.{accepted}
 use Rattle.parts.specs.declared.Leader.the-variants.{Broker}
-use Rattle.parts.specs.Isr.{member, without}
+use Rattle.parts.specs.Isr.{member}
 use Rattle.parts.specs.LeaderLaws.{names-iff}
 use Rattle.replica.specs.declared.Record.{Record}
 use Rattle.replica.specs.Replica.{recordAt}
 use Rattle.replica.specs.Log.{holdSameRecord}
+use Rattle.cluster.specs.declared.Quorum.{Quorum}
 use Rattle.cluster.specs.declared.State.{State}
 use Rattle.cluster.specs.declared.Action.{Action}
 use Rattle.cluster.specs.State.{replicaCount, replicaAt, tidy}
+use Rattle.cluster.specs.Equality.{tidy-same, tidy-twice}
+use Rattle.cluster.specs.Unused.{rules-tidy}
 use Rattle.cluster.specs.Rules.{rules}
 use Rattle.cluster.specs.Predicates.{Rules, rules-iff}
 use Rattle.cluster.specs.Actions.{replicaPresumesLeadership, becomeFollowerRefusal, becomeFollower}
-use Rattle.cluster.specs.Act.{kindOf, actionRefusal, effect}
-use Rattle.cluster.specs.ActLaws.{kind-past}
+use Rattle.cluster.specs.Act.{kindOf, actionRefusal, effect, answerBy, refusal, act}
 use Rattle.cluster.specs.Accepted.{Operands, operands-of, action-accepted, presumes-itself, become-follower-accepted}
 use Rattle.actions.specs.Sound.{Sound, sound-of}
 use Rattle.actions.specs.Kinds.{become-follower-at-sound}
 use Rattle.actions.specs.Kept.{Kept, effect-kept}
 use Rattle.questions.specs.declared.Property.{Property}
+use Rattle.questions.specs.declared.IsrAnswer.{IsrAnswer}
 use Rattle.questions.specs.declared.doubt.Doubt.{Doubt}
 use Rattle.questions.specs.Isr.{isrAsked, askIsr}
 use Rattle.questions.specs.IsrLaws.{below-cond, asked-of}
-use Rattle.questions.specs.IsrTheorems.{HoldSameRecord, Asked, Holds, hold-same-at-iff, asked-member, isr-says}
+use Rattle.questions.specs.IsrTheorems.{HoldSameRecord, Asked, Holds, hold-same-at-iff, asked-member, isr-says, isr-same}
 use Rattle.questions.specs.Exposed.{exposed, exposed-at, exposed-by}
-use Rattle.questions.specs.Doubt.{doubtOf, allFive, InDoubt, LedTo, doubtAfterAction, agreeFrom, offsetsInDoubt, pairAgrees, leaderAgrees, holdsInDoubt, exposesMore}
-use Rattle.questions.specs.DoubtLaws.{Stays, NoMoreExposed, Asks, OnlyInDoubt, exposing, follower-in-doubt, kind-in-doubt, kind-exposed, request-kept, hw-raised}
+use Rattle.questions.specs.Doubt.{cutDoubt, InDoubt, ReadsWithin, doubtAfterAction, agreeFrom, offsetsInDoubt, pairAgrees, leaderAgrees, holdsInDoubt, holdsAfterAction, exposesMore}
+use Rattle.questions.specs.DoubtLaws.{Stays, NoMoreExposed, Asks, OnlyInDoubt, follower-in-doubt, kind-in-doubt, cut-exposed, kind-exposed, request-kept, hw-raised}
 
 -- the property holds of all that is in doubt
 abbrev pub HoldsInDoubt : Doubt → Property → State → Type 0
 HoldsInDoubt d property s = (r m x : ℕ) → InDoubt d r m x → Asked property s r m x → HoldSameRecord s r m x
 
--- a presuming replica has a record of this id below its high watermark
+-- a presuming replica has a record of this id at an offset below its high watermark
 pub record Exposes (s : State) (id : ℕ) : Type 0 where
   pub leader : ℕ
   pub offset : ℕ
   pub replica : leader < replicaCount (s .limits)
   pub presumes : replicaAt s leader .leader ≡ Broker leader
   pub below : offset < replicaAt s leader .hw
+  pub has : offset < replicaAt s leader .end
   pub is : recordAt (replicaAt s leader) offset .id ≡ id
 
 -- ---- the test of what is in doubt
@@ -69,7 +73,7 @@ module _ (d : Doubt) (property : Property) (s : State) (h : rules s ≡ true) wh
   looked-at r m x l k from =
       let led = below-cond (member (d .leaders) r) _ x k in
       let presuming = below-cond (replicaPresumesLeadership s r) _ x (led .1) in
-      let unknown = below-unless (member (d .known) m) _ x (presuming .1) in
+      let unknown = below-unless (member (d .agreeing) m) _ x (presuming .1) in
       let asked = below-cond (member (isrAsked property s r) m) (replicaAt s r .hw) x (unknown .1) in (
         record { leader = led .0; unknown = unknown .0; from = from },
         record { replica = l; presumes = presumes-itself s r (presuming .0); member = asked .0; offset = asked .1 },
@@ -158,14 +162,37 @@ module _ (property : Property) (d : Doubt) (s t : State) (h : rules s ≡ true) 
         (λ e. doubt .1 (λ r m x i. after .0 e r m x))
         (λ e. after .1 (holds-by (isr-says property s h .holds .0 held) (doubt .0 e)))
 
--- ---- the kinds that can expose more, by their numbers
-exposing-number : (n : ℕ) → exposing (kindOf n) ≡ exposesMore n
-unfolding exposing kindOf exposesMore allBelow sameTruth
-exposing-number n =
-    elim (decLt n 9) [
-      | yes l ↦ same-truth _ _ (all-at 9 (λ (k : ℕ). sameTruth (exposing (kindOf k)) (exposesMore k)) refl n l)
-      | no l ↦ ap exposing (kind-past n (omega arith)) ∙ sym (rw (ne-eqb n 2 (omega arith), ne-eqb n 7 (omega arith)) refl)
-    ]
+-- ---- what is exposed: s before, t after
+module _ (s t : State) (met : Rules s) (limits : t .limits ≡ s .limits)
+    (each : (i : ℕ) → i < replicaCount (s .limits) → NoMoreExposed (replicaAt s i) (replicaAt t i) i)
+  where
+    no-more : (r : ℕ) → r < replicaCount (t .limits) → NoMoreExposed (replicaAt s r) (replicaAt t r) r
+    no-more r l = each r (rw limits at l)
+
+    exposed-by-each : exposed t ≤ exposed s
+    unfolding replicaPresumesLeadership
+    exposed-by-each =
+        exposed-by t (exposed s)
+        (λ r l e.
+        let q = no-more r l in
+        let led = names-iff (replicaAt t r .leader) r .0 e in
+        omega (arith, q .hw led, exposed-at s r (rw limits at l) (names-iff (replicaAt s r .leader) r .1 (q .leads led))))
+
+    exposes-by-each : (id : ℕ) → Exposes t id → Exposes s id
+    exposes-by-each id x =
+        let q = no-more (x .leader) (x .replica) in
+        let l : x .leader < replicaCount (s .limits) = rw limits at (x .replica) in
+        let below : x .offset < replicaAt s (x .leader) .hw = omega (arith, q .hw (x .presumes), x .below) in
+        let has : x .offset < replicaAt s (x .leader) .end = omega (arith, below, met .s5 (x .leader) l .hw) in
+        record {
+          leader = x .leader;
+          offset = x .offset;
+          replica = l;
+          presumes = q .leads (x .presumes);
+          below = below;
+          has = has;
+          is = ap (λ (w : Record). w .id) (sym (q .log (x .presumes) (x .offset) has .1)) ∙ x .is;
+        }
 
 -- ---- an accepted action on a state that meets the rules and is tidy
 module _ (s : State) (action : Action) (h : rules s ≡ true) (tidied : tidy s ≡ s) (ok : actionRefusal s action ≡ accepted) where
@@ -180,7 +207,7 @@ module _ (s : State) (action : Action) (h : rules s ≡ true) (tidied : tidy s �
 
   -- where the property held, it holds next exactly where the narrow test does
   pub holds-after : (property : Property) → askIsr property s .holds ≡ true
-      → askIsr property next .holds ≡ holdsInDoubt (doubtAfterAction property (s .quorum .isr) next action) property next
+      → askIsr property next .holds ≡ holdsAfterAction property (s .quorum .isr) next action
   unfolding effect
   holds-after property =
       let p = action-accepted s action ok in
@@ -195,9 +222,9 @@ module _ (s : State) (action : Action) (h : rules s ≡ true) (tidied : tidy s �
   below-five : (i : ℕ) → i < replicaCount (s .limits) → i < 5
   below-five i l = omega (arith, sound .rules .s1 .ranges .replicas)
 
-  pub led-to : LedTo next action
+  pub reads-within : ReadsWithin next action
   unfolding effect
-  led-to =
+  reads-within =
       record {
         a-below = λ u. below-five (action .a) (operands .a-below u);
         b-below = λ u. below-five (action .b) (operands .b-below u);
@@ -205,36 +232,17 @@ module _ (s : State) (action : Action) (h : rules s ≡ true) (tidied : tidy s �
         raised = λ k. hw-raised (s .limits) s sound (kindOf (action .kind)) k (action .a) (action .b) (action .e) operands;
       }
 
-  -- ---- what is exposed, by a kind that is neither 2 nor 7
+  -- ---- a kind that is neither 2 nor 7 exposes no more, and no other record
   module _ (less : exposesMore (action .kind) ≡ false) where
-    no-more : (r : ℕ) → r < replicaCount (next .limits) → NoMoreExposed (replicaAt s r) (replicaAt next r) r
+    quiet : (r : ℕ) → r < replicaCount (s .limits) → NoMoreExposed (replicaAt s r) (replicaAt next r) r
     unfolding effect
-    no-more r l =
-        kind-exposed (s .limits) s sound (kindOf (action .kind)) (action .a) (action .b) (action .e) (action-accepted s action ok .1) (exposing-number (action .kind) ∙ less) r
-        (rw (kept .limits) at l)
+    quiet = kind-exposed (s .limits) s sound (kindOf (action .kind)) (action .a) (action .b) (action .e) (action-accepted s action ok .1) less
 
     pub exposes-no-more : exposed next ≤ exposed s
-    unfolding replicaPresumesLeadership
-    exposes-no-more =
-        exposed-by next (exposed s)
-        (λ r l e.
-        let q = no-more r l in
-        let led = names-iff (replicaAt next r .leader) r .0 e in
-        omega (arith, q .hw led, exposed-at s r (rw (kept .limits) at l) (names-iff (replicaAt s r .leader) r .1 (q .leads led))))
+    exposes-no-more = exposed-by-each s next (sound .rules) (kept .limits) quiet
 
     pub exposes-no-other : (id : ℕ) → Exposes next id → Exposes s id
-    exposes-no-other id x =
-        let q = no-more (x .leader) (x .replica) in
-        let hw = q .hw (x .presumes) in
-        let l : x .leader < replicaCount (s .limits) = rw (kept .limits) at (x .replica) in
-        record {
-          leader = x .leader;
-          offset = x .offset;
-          replica = l;
-          presumes = q .leads (x .presumes);
-          below = omega (arith, hw, x .below);
-          is = ap (λ (w : Record). w .id) (sym (q .log (x .presumes) (x .offset) (omega (arith, hw, x .below, sound .rules .s5 (x .leader) l .hw)) .1)) ∙ x .is;
-        }
+    exposes-no-other = exposes-by-each s next (sound .rules) (kept .limits) quiet
 
 -- ---- kind 3, whatever offset the log is cut to
 module _ (s : State) (h : rules s ≡ true) (tidied : tidy s ≡ s) (a e offset : ℕ) (replica : a < replicaCount (s .limits))
@@ -246,9 +254,35 @@ module _ (s : State) (h : rules s ≡ true) (tidied : tidy s ≡ s) (a e offset 
     cut-sound : Sound (s .limits) cut
     cut-sound = become-follower-at-sound (s .limits) s (sound-of s h tidied) a e offset replica (become-follower-accepted s a e .0 ok .0)
 
-    -- where the property held, it holds of the cut exactly where the test of a from the end that it keeps on does
-    pub holds-after-cut : (property : Property) → askIsr property s .holds ≡ true
-        → askIsr property cut .holds ≡ holdsInDoubt (doubtOf allFive (without allFive a) (replicaAt cut a .end)) property cut
+    -- where the property held, it holds after the cut exactly where every leader agrees with a from the end of a's log on
+    pub holds-after-cut : (property : Property) → askIsr property s .holds ≡ true → askIsr property cut .holds ≡ holdsInDoubt (cutDoubt cut a) property cut
     holds-after-cut property =
-        narrow-decides property (doubtOf allFive (without allFive a) (replicaAt cut a .end)) s cut h (rules-iff cut .1 (cut-sound .rules)) (cut-sound .limits)
+        narrow-decides property (cutDoubt cut a) s cut h (rules-iff cut .1 (cut-sound .rules)) (cut-sound .limits)
         (follower-in-doubt (s .limits) s (sound-of s h tidied) property a e offset replica (become-follower-accepted s a e .0 ok .1))
+
+    -- and it exposes no more, and no other record
+    no-more-after-cut : (i : ℕ) → i < replicaCount (s .limits) → NoMoreExposed (replicaAt s i) (replicaAt cut i) i
+    no-more-after-cut = cut-exposed (s .limits) s (sound-of s h tidied) a e offset (become-follower-accepted s a e .0 ok .1)
+
+    pub cut-exposes-no-more : exposed cut ≤ exposed s
+    cut-exposes-no-more = exposed-by-each s cut (rules-iff s .0 h) (cut-sound .limits) no-more-after-cut
+
+    pub cut-exposes-no-other : (id : ℕ) → Exposes cut id → Exposes s id
+    cut-exposes-no-other = exposes-by-each s cut (rules-iff s .0 h) (cut-sound .limits) no-more-after-cut
+
+-- ---- an action on any state starts from the tidy state, of which the property holds exactly where it holds of the state
+pub act-holds-after : (s : State) (action : Action) → act s action .refusal ≡ accepted → (property : Property) → askIsr property s .holds ≡ true
+    → askIsr property (act s action .state) .holds ≡ holdsAfterAction property (s .quorum .isr) (act s action .state) action
+unfolding act answerBy refusal
+act-holds-after s action ok property held = go (refusal s action) refl ok
+  where
+    held-tidy : askIsr property (tidy s) .holds ≡ true
+    held-tidy = ap (λ (a : IsrAnswer). a .holds) (isr-same property (tidy s) s (tidy-same s)) ∙ held
+
+    go : (n : ℕ) → refusal s action ≡ n → let o = answerBy n s (effect (tidy s) action) in o .refusal ≡ accepted
+        → askIsr property (o .state) .holds ≡ holdsAfterAction property (s .quorum .isr) (o .state) action
+    go zero e accepts =
+        let p = refuse-zero _ _ _ e in
+        holds-after (tidy s) action (rules-tidy s ∙ not-false _ (p .0)) (tidy-twice s) (p .1) property held-tidy
+        ∙ ap (λ (q : Quorum). holdsAfterAction property (q .isr) (effect (tidy s) action) action) (tidy-same s .quorum)
+    go (suc n) e accepts = absurd (omega arith)

@@ -9,3 +9,4 @@ pub mod Doubt
 pub mod DoubtLaws
 pub mod DoubtTheorems
 pub mod DoubtCode
+pub mod DoubtExample

@@ -1,4 +1,5 @@
-// Three questions about a state: weak ISR, strong ISR, and what action it offers; and what it exposes.
+// Three questions about a state: weak ISR, strong ISR, and what action it offers; what it exposes; and what an action leaves in doubt
+// of weak and strong ISR.
 pub mod doubt;
 mod isr;
 mod search;

@@ -20,8 +20,8 @@ use Rattle.cluster.specs.Rules.{rules}
 use Rattle.cluster.specs.Act.{actionRefusal, effect}
 use Rattle.questions.specs.declared.Property.the-variants.{WeakIsr, StrongIsr}
 use Rattle.questions.specs.Exposed.{exposed}
-use Rattle.questions.specs.Doubt.{LedTo, holdsAfterAction, exposesMore}
-use Rattle.questions.specs.DoubtTheorems.{led-to, holds-after, exposes-no-more}
+use Rattle.questions.specs.Doubt.{ReadsWithin, holdsAfterAction, exposesMore}
+use Rattle.questions.specs.DoubtTheorems.{reads-within, holds-after, exposes-no-more}
 use Rattle.runs.specs.declared.Verdict.{Verdict}
 use Rattle.runs.specs.declared.judging.Progress.{Progress}
 use Rattle.runs.specs.Run.{recordWidth, actOn, recordsOf, Trace, stopped, acceptedThen, traceBy, traceFrom, verdictOf, lastOf, weakHolds, strongHolds, verdictFrom}
@@ -73,27 +73,27 @@ counted-so-far p s t = refl
 
 -- ---- what the loop knows of its state, so that after an action it asks only about what that leaves in doubt
 -- weak = 0 means that weak ISR holds of the state, the same for strong ISR; and the state exposes no more than was seen
-pub record ZeroMeansHolds (p : Progress) (s : State) : Type 0 where
+pub record KnownOfState (p : Progress) (s : State) : Type 0 where
   pub weak : p .weak ≡ 0 → weakHolds s ≡ true
   pub strong : p .strong ≡ 0 → strongHolds s ≡ true
   pub exposed : exposed s ≤ p .exposed
 
--- so, of the state `next` that an action led to: what the narrow test reads is there, it decides weak and strong ISR where they have
--- not failed, and a kind that cannot expose more does not
-pub record Narrowed (p : Progress) (before : ℕ) (next : State) (action : Action) : Type 0 where
-  pub led : LedTo next action
-  pub weak : p .weak ≡ 0 → weakHolds next ≡ holdsAfterAction WeakIsr before next action
-  pub strong : p .strong ≡ 0 → strongHolds next ≡ holdsAfterAction StrongIsr before next action
+-- so, of the state `next` that an action led to, by the quorum's ISR before the action: what the narrow test reads is there, it decides
+-- weak and strong ISR where they have not failed, and a kind that cannot expose more does not
+pub record Narrowed (p : Progress) (quorumBefore : ℕ) (next : State) (action : Action) : Type 0 where
+  pub within : ReadsWithin next action
+  pub weak : p .weak ≡ 0 → weakHolds next ≡ holdsAfterAction WeakIsr quorumBefore next action
+  pub strong : p .strong ≡ 0 → strongHolds next ≡ holdsAfterAction StrongIsr quorumBefore next action
   pub exposed : exposesMore (action .kind) ≡ false → exposed next ≤ p .exposed
 
-pub zero-begun : (s : State) → weakHolds s ≡ true → strongHolds s ≡ true → ZeroMeansHolds (progressOf 0 recordWidth 0 0 (exposed s)) s
-zero-begun s weak strong = record { weak = λ e. weak; strong = λ e. strong; exposed = omega arith }
+pub known-begun : (s : State) → weakHolds s ≡ true → strongHolds s ≡ true → KnownOfState (progressOf 0 recordWidth 0 0 (exposed s)) s
+known-begun s weak strong = record { weak = λ e. weak; strong = λ e. strong; exposed = omega arith }
 
-pub narrowed : (p : Progress) (s : State) (action : Action) → ZeroMeansHolds p s → rules s ≡ true → tidy s ≡ s → actionRefusal s action ≡ accepted
+pub narrowed : (p : Progress) (s : State) (action : Action) → KnownOfState p s → rules s ≡ true → tidy s ≡ s → actionRefusal s action ≡ accepted
     → Narrowed p (s .quorum .isr) (effect s action) action
 narrowed p s action k h t ok =
     record {
-      led = led-to s action h t ok;
+      within = reads-within s action h t ok;
       weak = λ e. holds-after s action h t ok WeakIsr (k .weak e);
       strong = λ e. holds-after s action h t ok StrongIsr (k .strong e);
       exposed = λ less. omega (arith, k .exposed, exposes-no-more s action h t ok less);
@@ -106,8 +106,8 @@ failed-not zero true count h = refl
 failed-not zero false count h = absurd (omega arith)
 failed-not (suc before) holds count h = absurd (omega arith)
 
-pub zero-after : (p : Progress) (s : State) → ZeroMeansHolds (counted p s) s
-zero-after p s =
+pub known-after : (p : Progress) (s : State) → KnownOfState (counted p s) s
+known-after p s =
     record {
       weak = failed-not (p .weak) (weakHolds s) (p .accepted);
       strong = failed-not (p .strong) (strongHolds s) (p .accepted);

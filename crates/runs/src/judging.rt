@@ -6,7 +6,7 @@ ghost use Rattle.cluster.specs.State.{zeroState};
 ghost use Rattle.cluster.specs.Rules.{rules};
 ghost use Rattle.questions.specs.Isr.{askIsr};
 ghost use Rattle.questions.specs.Exposed.{exposed};
-ghost use Rattle.questions.specs.Doubt.{LedTo, holdsAfterAction, exposesMore};
+ghost use Rattle.questions.specs.Doubt.{ReadsWithin, holdsAfterAction, exposesMore};
 ghost use Rattle.runs.specs.Run.{recordWidth, longestRun, verdictOf};
 ghost use Rattle.runs.specs.Judging.{refusedBy, failedAt, progressOf, soFar, counted, Narrowed};
 use crate::RECORD_WIDTH;
@@ -17,25 +17,25 @@ use questions::Property;
 use questions::doubt;
 
 // How many actions were accepted when a property first failed. Where that is known it stays, and the state is not asked. Otherwise
-// the property held before the action, and the narrow test decides; `before` is the quorum's ISR before the action. The caller shows
-// that the state meets the rules, that what the test reads of it is there, and that the test decides.
+// the property held before the action, and the narrow test decides. The caller shows that the state meets the rules, that what the
+// test reads of it is there, and that the test decides.
 fn failed_at(
     property: Property,
     known: usize,
-    before: u8,
+    quorum_before: u8,
     next: State,
     action: Action,
     count: usize,
 ) -> usize
     requires { ⌜ rules next ≡ true ⌝ }
-    requires { ⌜ LedTo next action ⌝ }
-    requires { ⌜ (known ≡ 0 → askIsr property next .holds ≡ holdsAfterAction property before next action) ⌝ }
+    requires { ⌜ ReadsWithin next action ⌝ }
+    requires { ⌜ (known ≡ 0 → askIsr property next .holds ≡ holdsAfterAction property «quorum_before» next action) ⌝ }
     ensures { λ r. ⌜ r ≡ failedAt known (askIsr property next .holds) count ⌝ }
 {
     if known != 0 {
         return known;
     }
-    if doubt::holds_after(property, before, next, action) {
+    if doubt::holds_after(property, quorum_before, next, action) {
         return 0;
     }
     count
@@ -80,21 +80,29 @@ impl Progress {
         }
     }
 
-    // One accepted action more, which handed back a state. The caller shows that the state meets the rules, that no count is past
-    // the longest run, and that the narrow test decides what has not failed.
-    pub(crate) fn after(self, before: u8, next: State, action: Action) -> Progress
+    // One accepted action more, which handed back a state; the quorum's ISR before it is given too. The caller shows that the state
+    // meets the rules, that no count is past the longest run, that the narrow test decides what has not failed, and that only kinds
+    // 2 and 7 expose more.
+    pub(crate) fn after(self, quorum_before: u8, next: State, action: Action) -> Progress
         requires { ⌜ rules next ≡ true ⌝ }
         requires { ⌜ self .accepted ≤ longestRun ⌝ }
         requires { ⌜ self .at ≤ longestRun ⌝ }
-        requires { ⌜ Narrowed self before next action ⌝ }
+        requires { ⌜ Narrowed self «quorum_before» next action ⌝ }
         ensures { λ r. ⌜ r ≡ counted self next ⌝ }
     {
         let count = self.accepted + 1;
-        let weak = failed_at(Property::WeakIsr, self.weak, before, next, action, count);
+        let weak = failed_at(
+            Property::WeakIsr,
+            self.weak,
+            quorum_before,
+            next,
+            action,
+            count,
+        );
         let strong = failed_at(
             Property::StrongIsr,
             self.strong,
-            before,
+            quorum_before,
             next,
             action,
             count,

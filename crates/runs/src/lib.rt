@@ -55,7 +55,7 @@ pub fn judge(run: &[u8]) -> Verdict
 // The verdict from the configuration's fresh state on. The caller shows that the run is neither too long nor too short, that the
 // state meets the rules and is tidy, and that weak and strong ISR hold of it. Each record goes to its readers as its own part of the
 // run; the rules are not tested and no room is tidied again, since an accepted action keeps both; weak and strong ISR are asked only
-// of what the action can have changed.
+// of what the action can have changed, and what is exposed only after kinds 2 and 7.
 fn judge_actions(run: &[u8], fresh: State) -> Verdict
     requires { ⌜ length (now run) ≤ longestRun ⌝ }
     requires { ⌜ recordWidth ≤ length (now run) ⌝ }

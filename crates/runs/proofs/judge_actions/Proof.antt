@@ -17,14 +17,14 @@ use Rattle.runs.specs.declared.judging.Progress.{Progress}
 use Rattle.runs.specs.declared.Verdict.{Verdict}
 use Rattle.runs.specs.Run.{recordWidth, actionMark, actionIn, recordsOf, traceFrom, verdictFrom, actOn}
 use Rattle.runs.specs.RecordLaws.{record-short, unread, accepted-number, accepted-state, act-on-kept}
-use Rattle.runs.specs.Judging.{ZeroMeansHolds, zero-begun, narrowed, zero-after, refusedBy, after, soFar, counted-so-far, fromHere, recordHere, here-begun, here-end, here-refused, here-on}
+use Rattle.runs.specs.Judging.{KnownOfState, known-begun, narrowed, known-after, refusedBy, after, soFar, counted-so-far, fromHere, recordHere, here-begun, here-end, here-refused, here-on}
 use Rattle.runs.proofs.judge_actions.Statement.{statement}
 use Rattle.runs.proofs.judge_actions.Tie as tie
 
 -- the state meets the rules and is tidy, what is known of it, and the verdict from here is that of the run
 abbrev Inv-loop : tie.InvT-loop
 Inv-loop run state₀ progress₀ state progress =
-    (progress .at ≤ length run) × (progress .accepted ≤ progress .at) × (rules state ≡ true) × (tidy state ≡ state) × ZeroMeansHolds progress state
+    (progress .at ≤ length run) × (progress .accepted ≤ progress .at) × (rules state ≡ true) × (tidy state ≡ state) × KnownOfState progress state
     × (fromHere (soFar progress₀ state₀) run ≡ fromHere (soFar progress state) run)
 
 abbrev μ-loop : tie.MeasureT-loop
@@ -71,7 +71,7 @@ loop-holds c =
       omega arith,
       search needs,
       search needs,
-      rw e (zero-begun (c .before .before .args .fresh) (c .before .before .pre .1 .1 .1 .1 .0) (c .before .before .pre .1 .1 .1 .1 .1)),
+      rw e (known-begun (c .before .before .args .fresh) (c .before .before .pre .1 .1 .1 .1 .0) (c .before .before .pre .1 .1 .1 .1 .1)),
       refl,
     )
 
@@ -206,7 +206,7 @@ loop-again c =
       omega arith,
       kept (c .before) .rules,
       kept (c .before) .tidy,
-      rw (c .after .ensures) (zero-after (z .loop .progress) (c .before .effect .result)),
+      rw (c .after .ensures) (known-after (z .loop .progress) (c .before .effect .result)),
       z .loop .inv .5
           ∙ here-on (here z) (runAt z) (omega (arith, whole)) (ok (c .before .before .before))
           ∙ ap (λ (v : Verdict). fromHere v (runAt z)) (sym (e ∙ ap (after (here z)) (handed (c .before)))),

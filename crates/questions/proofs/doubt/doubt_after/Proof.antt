@@ -30,15 +30,15 @@ none-requires-2 c κs = search needs
 enum-told-3 : tie.Need-enum-told-3
 enum-told-3 c = search needs
 
-led-in-requires : tie.Need-led-in-requires
-led-in-requires c κs = (c .before .before .before .before .pre .0, c .before .before .before .before .pre .1 .sent (kind-is (c .before .before) BecomeLeader (c .enum-told3 .given .1)))
+doubt-after-lead-requires : tie.Need-doubt-after-lead-requires
+doubt-after-lead-requires c κs = (c .before .before .before .before .pre .0, c .before .before .before .before .pre .1 .sent (kind-is (c .before .before) BecomeLeader (c .enum-told3 .given .1)))
 
 enum-told-4 : tie.Need-enum-told-4
 enum-told-4 c = search needs
 
-cut-in-requires : tie.Need-cut-in-requires
+doubt-after-cut-requires : tie.Need-doubt-after-cut-requires
 unfolding uses
-cut-in-requires c κs = c .before .before .before .before .pre .1 .a-below (ap (λ (k : Kind). uses k .a) (kind-is (c .before .before) BecomeFollower (c .enum-told4 .given .1)))
+doubt-after-cut-requires c κs = c .before .before .before .before .pre .1 .a-below (ap (λ (k : Kind). uses k .a) (kind-is (c .before .before) BecomeFollower (c .enum-told4 .given .1)))
 
 enum-told-5 : tie.Need-enum-told-5
 enum-told-5 c = search needs
@@ -49,23 +49,23 @@ none-requires-3 c κs = search needs
 enum-told-6 : tie.Need-enum-told-6
 enum-told-6 c = search needs
 
-shrunk-requires : tie.Need-shrunk-requires
+after-shrink-requires : tie.Need-after-shrink-requires
 unfolding uses
-shrunk-requires c κs = (quorum-isr-small (c .before .before .before .before .args .s) (c .before .before .before .before .pre .0), c .before .before .before .before .pre .1 .b-below (ap (λ (k : Kind). uses k .b) (kind-is (c .before .before) LeaderShrinkIsr (c .enum-told6 .given .1))))
+after-shrink-requires c κs = (quorum-isr-small (c .before .before .before .before .args .s) (c .before .before .before .before .pre .0), c .before .before .before .before .pre .1 .b-below (ap (λ (k : Kind). uses k .b) (kind-is (c .before .before) LeaderShrinkIsr (c .enum-told6 .given .1))))
 
 enum-told-7 : tie.Need-enum-told-7
 enum-told-7 c = search needs
 
-expanded-requires : tie.Need-expanded-requires
+after-expand-requires : tie.Need-after-expand-requires
 unfolding uses
-expanded-requires c κs = c .before .before .before .before .pre .1 .a-below (ap (λ (k : Kind). uses k .a) (kind-is (c .before .before) LeaderExpandIsr (c .enum-told7 .given .1)))
+after-expand-requires c κs = c .before .before .before .before .pre .1 .a-below (ap (λ (k : Kind). uses k .a) (kind-is (c .before .before) LeaderExpandIsr (c .enum-told7 .given .1)))
 
 enum-told-8 : tie.Need-enum-told-8
 enum-told-8 c = search needs
 
-raised-in-requires : tie.Need-raised-in-requires
+doubt-after-raise-requires : tie.Need-doubt-after-raise-requires
 unfolding uses
-raised-in-requires c κs = (c .before .before .before .before .pre .1 .a-below (ap (λ (k : Kind). uses k .a) (kind-is (c .before .before) LeaderIncHighWatermark (c .enum-told8 .given .1))), c .before .before .before .before .pre .1 .raised (kind-is (c .before .before) LeaderIncHighWatermark (c .enum-told8 .given .1)))
+doubt-after-raise-requires c κs = (c .before .before .before .before .pre .1 .a-below (ap (λ (k : Kind). uses k .a) (kind-is (c .before .before) LeaderIncHighWatermark (c .enum-told8 .given .1))), c .before .before .before .before .pre .1 .raised (kind-is (c .before .before) LeaderIncHighWatermark (c .enum-told8 .given .1)))
 
 enum-told-9 : tie.Need-enum-told-9
 enum-told-9 c = search needs
@@ -89,11 +89,11 @@ returns-2 c = rw (kind-is (c .before .before .before) ControllerElectLeader (c .
 
 returns-3 : tie.Need-returns-3
 unfolding doubtAfter
-returns-3 c = rw (kind-is (c .before .before .before) BecomeLeader (c .before .enum-told3 .given .1)) (c .led-in .ensures)
+returns-3 c = rw (kind-is (c .before .before .before) BecomeLeader (c .before .enum-told3 .given .1)) (c .doubt-after-lead .ensures)
 
 returns-4 : tie.Need-returns-4
 unfolding doubtAfter
-returns-4 c = rw (kind-is (c .before .before .before) BecomeFollower (c .before .enum-told4 .given .1)) (c .cut-in .ensures)
+returns-4 c = rw (kind-is (c .before .before .before) BecomeFollower (c .before .enum-told4 .given .1)) (c .doubt-after-cut .ensures)
 
 returns-5 : tie.Need-returns-5
 unfolding doubtAfter
@@ -101,15 +101,15 @@ returns-5 c = rw (kind-is (c .before .before .before) LeaderWrite (c .before .en
 
 returns-6 : tie.Need-returns-6
 unfolding doubtAfter
-returns-6 c = rw (kind-is (c .before .before .before) LeaderShrinkIsr (c .before .enum-told6 .given .1)) (c .shrunk .ensures)
+returns-6 c = rw (kind-is (c .before .before .before) LeaderShrinkIsr (c .before .enum-told6 .given .1)) (c .after-shrink .ensures)
 
 returns-7 : tie.Need-returns-7
 unfolding doubtAfter
-returns-7 c = rw (kind-is (c .before .before .before) LeaderExpandIsr (c .before .enum-told7 .given .1)) (c .expanded .ensures)
+returns-7 c = rw (kind-is (c .before .before .before) LeaderExpandIsr (c .before .enum-told7 .given .1)) (c .after-expand .ensures)
 
 returns-8 : tie.Need-returns-8
 unfolding doubtAfter
-returns-8 c = rw (kind-is (c .before .before .before) LeaderIncHighWatermark (c .before .enum-told8 .given .1)) (c .raised-in .ensures)
+returns-8 c = rw (kind-is (c .before .before .before) LeaderIncHighWatermark (c .before .enum-told8 .given .1)) (c .doubt-after-raise .ensures)
 
 returns-9 : tie.Need-returns-9
 unfolding doubtAfter
@@ -129,17 +129,17 @@ doubt-after-spec =
     enum-told-2
     none-requires-2
     enum-told-3
-    led-in-requires
+    doubt-after-lead-requires
     enum-told-4
-    cut-in-requires
+    doubt-after-cut-requires
     enum-told-5
     none-requires-3
     enum-told-6
-    shrunk-requires
+    after-shrink-requires
     enum-told-7
-    expanded-requires
+    after-expand-requires
     enum-told-8
-    raised-in-requires
+    doubt-after-raise-requires
     enum-told-9
     none-requires-4
     enum-told-10

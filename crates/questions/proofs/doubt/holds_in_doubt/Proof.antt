@@ -24,9 +24,9 @@ abbrev μ-loop : tie.MeasureT-loop
 μ-loop doubt property s n quorum r₀ r = n - r
 
 -- a member is looked at, and so are these of its offsets
-members : (z : tie.After-where-led Inv-loop2 μ-loop2 Inv-loop μ-loop)
-    → let x = z .before .before .before .before .before .before .before .args in z .where-led .result ≡ membersOf (x .doubt) (x .property) (x .t3) (z .before .before .before .before .loop .r)
-members z = z .where-led .ensures
+members : (z : tie.After-where-in-doubt Inv-loop2 μ-loop2 Inv-loop μ-loop)
+    → let x = z .before .before .before .before .before .before .before .args in z .where-in-doubt .result ≡ membersOf (x .doubt) (x .property) (x .t3) (z .before .before .before .before .loop .r)
+members z = z .where-in-doubt .ensures
 
 below : (z : tie.In-loop2 Inv-loop2 μ-loop2 Inv-loop μ-loop)
     → let x = z .before .before .before .before .before .before .before .before .before .args in z .before .loop2 .m < membersOf (x .doubt) (x .property) (x .t3) (z .before .before .before .before .before .before .loop .r)
@@ -62,8 +62,8 @@ element-copy-out-p c = replica-five (c .before .before .before .before .args .t3
 isr-asked-requires : tie.Need-isr-asked-requires Inv-loop2 μ-loop2 Inv-loop μ-loop
 isr-asked-requires c κs = search needs
 
-where-led-requires : tie.Need-where-led-requires Inv-loop2 μ-loop2 Inv-loop μ-loop
-where-led-requires c κs = search needs
+where-in-doubt-requires : tie.Need-where-in-doubt-requires Inv-loop2 μ-loop2 Inv-loop μ-loop
+where-in-doubt-requires c κs = search needs
 
 loop2-holds : tie.Need-loop2-holds Inv-loop2 μ-loop2 Inv-loop μ-loop
 loop2-holds c = all-none _
@@ -117,7 +117,7 @@ loop-again : tie.Need-loop-again Inv-loop2 μ-loop2 Inv-loop μ-loop
 loop-again c =
     let x = c .before .before .before .before .before .before .before .before .before .args in
     let loop = c .before .before .before .before .before .before .loop in
-    let past : c .before .before .where-led .result ≤ c .before .loop2 .m = omega arith in
+    let past : c .before .before .where-in-doubt .result ≤ c .before .loop2 .m = omega arith in
     (omega arith, all-more (loop .r) _ (loop .inv .1) (members-past (x .doubt) (x .property) (x .t3) (loop .r) (c .before .loop2 .m) (rw (members (c .before .before)) at past) (c .before .loop2 .inv)))
 
 returns-2 : tie.Need-returns-2 Inv-loop2 μ-loop2 Inv-loop μ-loop
@@ -139,7 +139,7 @@ holds-in-doubt-spec =
     mul-p
     element-copy-out-p
     isr-asked-requires
-    where-led-requires
+    where-in-doubt-requires
     loop2-holds
     cast-q
     mul-q

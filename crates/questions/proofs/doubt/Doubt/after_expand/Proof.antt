@@ -2,8 +2,8 @@ use Prim.Native.Nat.{ℕ}
 use mathlib.Core.Path.{_∙_, ap₂}
 use borrow.Author.Needs.{needs}
 use Rattle.questions.specs.Doubt.{doubtOf, expandDoubt}
-use Rattle.questions.proofs.doubt.Doubt.expanded.Statement.{statement}
-use Rattle.questions.proofs.doubt.Doubt.expanded.Tie as tie
+use Rattle.questions.proofs.doubt.Doubt.after_expand.Statement.{statement}
+use Rattle.questions.proofs.doubt.Doubt.after_expand.Tie as tie
 
 enum-told : tie.Need-enum-told
 enum-told c = search needs
@@ -33,8 +33,8 @@ returns-2 : tie.Need-returns-2
 unfolding expandDoubt
 returns-2 c = rw (c .before .enum-told2 .given .1) (c .of2 .ensures)
 
-pub expanded-spec : {M : Type 1} → statement M
-expanded-spec =
+pub after-expand-spec : {M : Type 1} → statement M
+after-expand-spec =
     tie.close
     (tie.spec
     enum-told

@@ -4,8 +4,8 @@ use native.Mathlib.Omega.{arith}
 use borrow.Author.Needs.{needs}
 use Rattle.parts.specs.LeaderLaws.{leader-below-iff}
 use Rattle.questions.specs.Doubt.{doubtOf, ledDoubt}
-use Rattle.questions.proofs.doubt.Doubt.led.Statement.{statement}
-use Rattle.questions.proofs.doubt.Doubt.led.Tie as tie
+use Rattle.questions.proofs.doubt.Doubt.after_lead.Statement.{statement}
+use Rattle.questions.proofs.doubt.Doubt.after_lead.Tie as tie
 
 enum-told : tie.Need-enum-told
 enum-told c = search needs
@@ -32,8 +32,8 @@ returns-2 c =
     rw (c .before .before .before .leader .given .1)
     (c .of .ensures ∙ ap (λ (leaders : ℕ). doubtOf leaders 0 0) (c .before .including-member .ensures))
 
-pub led-spec : {M : Type 1} → statement M
-led-spec =
+pub after-lead-spec : {M : Type 1} → statement M
+after-lead-spec =
     tie.close
     (tie.spec
     enum-told

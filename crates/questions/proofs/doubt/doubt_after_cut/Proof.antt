@@ -3,8 +3,8 @@ use mathlib.Core.Path.{_∙_, ap}
 use borrow.Author.Needs.{needs}
 use Rattle.cluster.specs.State.{replicaAt}
 use Rattle.questions.specs.Doubt.{doubtOf, allFive}
-use Rattle.questions.proofs.doubt.cut_in.Statement.{statement}
-use Rattle.questions.proofs.doubt.cut_in.Tie as tie
+use Rattle.questions.proofs.doubt.doubt_after_cut.Statement.{statement}
+use Rattle.questions.proofs.doubt.doubt_after_cut.Tie as tie
 
 mul-p : tie.Need-mul-p
 mul-p c = search needs
@@ -23,6 +23,6 @@ returns c =
     let x = c .before .before .before .args in
     c .of .ensures ∙ ap (λ (known : ℕ). doubtOf allFive known (replicaAt (x .t1) (x .a) .end)) (c .before .without-member .ensures)
 
-pub cut-in-spec : {M : Type 1} → statement M
-cut-in-spec =
+pub doubt-after-cut-spec : {M : Type 1} → statement M
+doubt-after-cut-spec =
     tie.close (tie.spec mul-p element-copy-out-p without-member-requires of-requires returns)

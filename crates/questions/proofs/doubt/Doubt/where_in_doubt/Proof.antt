@@ -1,8 +1,8 @@
 use mathlib.Core.Path.{_∙_, sym}
 use borrow.Author.Needs.{needs}
 use Rattle.logic.specs.Table.{cond-true, cond-false}
-use Rattle.questions.proofs.doubt.Doubt.where_led.Statement.{statement}
-use Rattle.questions.proofs.doubt.Doubt.where_led.Tie as tie
+use Rattle.questions.proofs.doubt.Doubt.where_in_doubt.Statement.{statement}
+use Rattle.questions.proofs.doubt.Doubt.where_in_doubt.Tie as tie
 
 is-member-requires : tie.Need-is-member-requires
 is-member-requires c κs = search needs
@@ -16,5 +16,5 @@ returns c = c .where-presuming .ensures ∙ sym (cond-true _ _ _ (sym (c .before
 returns-2 : tie.Need-returns-2
 returns-2 c = sym (cond-false _ _ _ (sym (c .before .is-member .ensures) ∙ c .if1 .left))
 
-pub where-led-spec : {M : Type 1} → statement M
-where-led-spec = tie.close (tie.spec is-member-requires where-presuming-requires returns returns-2)
+pub where-in-doubt-spec : {M : Type 1} → statement M
+where-in-doubt-spec = tie.close (tie.spec is-member-requires where-presuming-requires returns returns-2)

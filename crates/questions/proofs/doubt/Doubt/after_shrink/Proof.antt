@@ -3,8 +3,8 @@ use borrow.Author.Needs.{needs}
 use borrow.Author.Tests.{eq-eqb, ne-eqb}
 use Rattle.logic.specs.Table.{cond-true, cond-false}
 use Rattle.questions.specs.Doubt.{shrinkDoubt}
-use Rattle.questions.proofs.doubt.Doubt.shrunk.Statement.{statement}
-use Rattle.questions.proofs.doubt.Doubt.shrunk.Tie as tie
+use Rattle.questions.proofs.doubt.Doubt.after_shrink.Statement.{statement}
+use Rattle.questions.proofs.doubt.Doubt.after_shrink.Tie as tie
 
 enum-told : tie.Need-enum-told
 enum-told c = search needs
@@ -40,8 +40,8 @@ returns-3 c =
     rw (c .before .before .before .enum-told2 .given .1)
     (c .of .ensures ∙ sym (cond-false _ _ _ (ne-eqb _ _ (λ e. c .before .if1 .left (c .before .before .including-member .ensures ∙ e)))))
 
-pub shrunk-spec : {M : Type 1} → statement M
-shrunk-spec =
+pub after-shrink-spec : {M : Type 1} → statement M
+after-shrink-spec =
     tie.close
     (tie.spec
     enum-told
