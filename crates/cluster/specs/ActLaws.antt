@@ -7,6 +7,7 @@ use lib.ListN.{length, List·getD-eq-default}
 use Rattle.logic.specs.Table.{cond-true}
 use Rattle.logic.specs.Refuse.{refuse, refuse-no}
 use Rattle.parts.specs.Refusal.{brokenState, accepted}
+use Rattle.parts.specs.Isr.{including, without}
 use Rattle.parts.specs.IsrLaws.{below-32}
 use Rattle.parts.specs.Leader.{leaderBelow}
 use Rattle.parts.specs.LeaderLaws.{leader-below-iff}
@@ -67,6 +68,11 @@ module _ (s : State) (h : rules s ≡ true) where
 
   pub replicate-room : (a b : ℕ) → b < replicaCount (s .limits) → followerReplicateRefusal s a b ≡ accepted → replicaAt s a .end < 16
   replicate-room a b l k = omega (arith, replicate-accepted s a b .0 k .behind, end-small b l)
+
+-- ---- kinds 5 and 6
+-- an ISR that replica a has joined, or left
+abbrev pub changedIsr : Bool → ℕ → ℕ → ℕ
+changedIsr joins isr a = cond joins (including isr a) (without isr a)
 
 -- ---- kinds
 -- a number that is none of 0 to 8 is of no kind

@@ -1,8 +1,8 @@
-// The parts of a state, read by number, and the state with one part put anew. The caller of each function that takes a
-// place shows that the array has it.
+// The parts of a state, read by number. The caller shows that the array has the place. A function that changes the state
+// reads from the copy that it changes, since a call that reads the state by value would copy it once more.
 ghost use mathlib.Core.Path.{_≡_};
 ghost use Prim.Native.Nat.{_<_};
-ghost use Rattle.cluster.specs.State.{requestAt, replicaAt, withReplica, withNextRecordId};
+ghost use Rattle.cluster.specs.State.{requestAt, replicaAt};
 use crate::Request;
 use crate::State;
 use replica::Replica;
@@ -22,24 +22,5 @@ impl State {
         ensures { λ r. ⌜ r ≡ requestAt self e ⌝ }
     {
         self.requests[e as usize]
-    }
-
-    // The state with the replica named i put anew.
-    pub(crate) fn with_replica(self, i: u8, p: Replica) -> State
-        requires { ⌜ i < 5 ⌝ }
-        ensures { λ r. ⌜ r ≡ withReplica self i p ⌝ }
-    {
-        let mut t = self;
-        t.replicas[i as usize] = p;
-        t
-    }
-
-    // The state with another next record id.
-    pub(crate) fn with_next_record_id(self, id: u8) -> State
-        ensures { λ r. ⌜ r ≡ withNextRecordId self id ⌝ }
-    {
-        let mut t = self;
-        t.next_record_id = id;
-        t
     }
 }

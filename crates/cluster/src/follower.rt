@@ -43,10 +43,13 @@ impl State {
         requires { ⌜ followerReplicateRefusal self a b ≡ accepted ⌝ }
         ensures { λ r. ⌜ r ≡ followerReplicate self a b ⌝ }
     {
-        let p = self.replica_at(a);
-        let q = self.replica_at(b);
+        let mut t = self;
+        let p = t.replicas[a as usize];
+        let q = t.replicas[b as usize];
         let record = q.record_at(p.end);
         let hw = parts::smaller(q.hw, p.end + 1);
-        self.with_replica(a, p.append(record).with_hw(hw))
+        let longer = p.append(record).with_hw(hw);
+        t.replicas[a as usize] = longer;
+        t
     }
 }

@@ -1,6 +1,6 @@
 // Kinds 4 to 7: what a leader does. The caller of a refusal or of an effect shows that the state meets the rules and that a
-// and b are among its replicas; the caller of a write shows also that it is accepted. The private functions ask of their
-// callers that the array has the replicas.
+// and b are among its replicas, and so does the caller of what kinds 5 and 6 share; the caller of a write shows also that it
+// is accepted. The other private functions ask of their callers that the array has the replicas.
 ghost use mathlib.Core.Path.{_≡_};
 ghost use mathlib.Core.Bool.{true};
 ghost use Prim.Native.Nat.{_<_};
@@ -9,6 +9,7 @@ ghost use Rattle.parts.specs.Refusal.{accepted};
 ghost use Rattle.cluster.specs.State.{replicaCount, replicaAt};
 ghost use Rattle.cluster.specs.Rules.{rules};
 ghost use Rattle.cluster.specs.Actions.{leaderWriteRefusal, leaderWrite, quorumUpdateLeaderAndIsr, leaderShrinkIsrRefusal, leaderShrinkIsr, leaderExpandIsrRefusal, leaderExpandIsr, memberHasHw, leaderIncHighWatermarkRefusal, leaderIncHighWatermark};
+ghost use Rattle.cluster.specs.ActLaws.{changedIsr};
 use crate::State;
 use parts::refusal::ACCEPTED;
 use parts::refusal::ALREADY_SO;
@@ -22,7 +23,18 @@ use parts::refusal::NOT_PRESUMING;
 use parts::refusal::NOT_TRUE_LEADER;
 use parts::refusal::SAME_REPLICA;
 use replica::Record;
-use replica::Replica;
+
+// An ISR that a has joined, or left. The caller shows that the ISR and a are within five replicas.
+fn changed_isr(joins: bool, isr: u8, a: u8) -> u8
+    requires { ⌜ isr < 32 ⌝ }
+    requires { ⌜ a < 5 ⌝ }
+    ensures { λ r. ⌜ r ≡ changedIsr joins isr a ⌝ }
+{
+    if joins {
+        return parts::including_member(isr, a);
+    }
+    parts::without_member(isr, a)
+}
 
 impl State {
     // Kind 4: the refusal of a write to a.
@@ -52,29 +64,34 @@ impl State {
         requires { ⌜ leaderWriteRefusal self a ≡ accepted ⌝ }
         ensures { λ r. ⌜ r ≡ leaderWrite self a ⌝ }
     {
-        let p = self.replica_at(a);
-        let id = self.next_record_id;
+        let mut t = self;
+        let p = t.replicas[a as usize];
+        let id = t.next_record_id;
         let record = Record {
             id: id,
             epoch: p.epoch,
         };
-        self.with_replica(a, p.append(record))
-            .with_next_record_id(id + 1)
+        let longer = p.append(record);
+        t.replicas[a as usize] = longer;
+        t.next_record_id = id + 1;
+        t
     }
 
-    // The state with another ISR in a leader and in the quorum, and no request of it. The caller shows that the replica handed over
-    // is that leader: it has read it, and to read it here again would copy the state once more.
-    fn quorum_update_leader_and_isr(self, leader: u8, p: Replica, new_isr: u8) -> State
-        requires { ⌜ leader < 5 ⌝ }
-        requires { ⌜ p ≡ replicaAt self leader ⌝ }
-        ensures { λ r. ⌜ r ≡ quorumUpdateLeaderAndIsr self leader «new_isr» ⌝ }
+    // The state in which a follower has joined or left the ISR of a leader: that ISR is put into the leader and into the
+    // quorum, and no request of it.
+    fn quorum_update_leader_and_isr(self, leader: u8, follower: u8, joins: bool) -> State
+        requires { ⌜ rules self ≡ true ⌝ }
+        requires { ⌜ leader < replicaCount (self .limits) ⌝ }
+        requires { ⌜ follower < replicaCount (self .limits) ⌝ }
+        ensures { λ r. ⌜ r ≡ quorumUpdateLeaderAndIsr self leader (changedIsr joins (replicaAt self leader .isr) follower) ⌝ }
     {
         let mut t = self;
-        let mut changed = p;
-        changed.isr = new_isr;
-        t.replicas[leader as usize] = changed;
-        let mut q = self.quorum;
-        q.isr = new_isr;
+        let mut p = t.replicas[leader as usize];
+        let isr = changed_isr(joins, p.isr, follower);
+        p.isr = isr;
+        t.replicas[leader as usize] = p;
+        let mut q = t.quorum;
+        q.isr = isr;
         t.quorum = q;
         t
     }
@@ -106,11 +123,10 @@ impl State {
     pub(crate) fn leader_shrink_isr(self, a: u8, b: u8) -> State
         requires { ⌜ rules self ≡ true ⌝ }
         requires { ⌜ a < replicaCount (self .limits) ⌝ }
+        requires { ⌜ b < replicaCount (self .limits) ⌝ }
         ensures { λ r. ⌜ r ≡ leaderShrinkIsr self a b ⌝ }
     {
-        let p = self.replica_at(a);
-        let isr = parts::without_member(p.isr, b);
-        self.quorum_update_leader_and_isr(a, p, isr)
+        self.quorum_update_leader_and_isr(a, b, false)
     }
 
     // Kind 6: the refusal of a's taking b into its ISR.
@@ -140,9 +156,7 @@ impl State {
         requires { ⌜ b < replicaCount (self .limits) ⌝ }
         ensures { λ r. ⌜ r ≡ leaderExpandIsr self a b ⌝ }
     {
-        let p = self.replica_at(a);
-        let isr = parts::including_member(p.isr, b);
-        self.quorum_update_leader_and_isr(a, p, isr)
+        self.quorum_update_leader_and_isr(a, b, true)
     }
 
     // Whether m, if it is in a's ISR, has a as leader and has the offset of a's high watermark.
@@ -202,7 +216,10 @@ impl State {
         requires { ⌜ a < replicaCount (self .limits) ⌝ }
         ensures { λ r. ⌜ r ≡ leaderIncHighWatermark self a ⌝ }
     {
-        let p = self.replica_at(a);
-        self.with_replica(a, p.with_hw(p.hw + 1))
+        let mut t = self;
+        let p = t.replicas[a as usize];
+        let raised = p.with_hw(p.hw + 1);
+        t.replicas[a as usize] = raised;
+        t
     }
 }

@@ -56,10 +56,13 @@ impl State {
         match leader {
             Leader::None => self,
             Leader::Broker(b) => {
-                let q = self.request_at(e);
+                let mut t = self;
+                let q = t.requests[e as usize];
                 let epoch = parts::epoch_of(e);
-                let p = self.replica_at(b);
-                self.with_replica(b, p.with_request(epoch, Leader::Broker(b), q.isr))
+                let p = t.replicas[b as usize];
+                let leading = p.with_request(epoch, Leader::Broker(b), q.isr);
+                t.replicas[b as usize] = leading;
+                t
             }
         }
     }
@@ -102,14 +105,14 @@ impl State {
         requires { ⌜ e < 16 ⌝ }
         ensures { λ r. ⌜ r ≡ becomeFollower self a e «truncation_offset» ⌝ }
     {
-        let q = self.request_at(e);
+        let mut t = self;
+        let q = t.requests[e as usize];
         let l = q.leader;
         let epoch = parts::epoch_of(e);
-        let p = self.replica_at(a);
-        self.with_replica(
-            a,
-            p.become_follower_and_truncate_to(epoch, l, q.isr, truncation_offset),
-        )
+        let p = t.replicas[a as usize];
+        let following = p.become_follower_and_truncate_to(epoch, l, q.isr, truncation_offset);
+        t.replicas[a as usize] = following;
+        t
     }
 
     // Kind 3: a takes request e; where that names a leader, a's log is cut to a's high watermark.

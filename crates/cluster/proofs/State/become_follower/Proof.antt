@@ -1,49 +1,52 @@
-use mathlib.Core.Path.{_∙_, _≡_, ap, ap₂}
-use lib.IntN.{pos, ℤ}
+use mathlib.Core.Path.{_∙_, _≡_}
 use mir.Val.{ofZ, toZ}
 use mir.Syntax.{w8}
 use borrow.Author.Needs.{needs}
-use Rattle.replica.specs.declared.Replica.{Replica}
-use Rattle.replica.specs.Change.{becomeFollowerAndTruncateTo}
-use Rattle.cluster.specs.declared.Request.{Request}
 use Rattle.cluster.specs.State.{withReplica}
 use Rattle.cluster.specs.Actions.{becomeFollower}
 use Rattle.cluster.proofs.State.become_follower.Statement.{statement}
 use Rattle.cluster.proofs.State.become_follower.Tie as tie
 
-request-at-requires : tie.Need-request-at-requires
-request-at-requires c κs = search needs
+mul-q : tie.Need-mul-q
+mul-q c = search needs
+
+element-copy-out-q : tie.Need-element-copy-out-q
+element-copy-out-q c = search needs
 
 epoch-of-requires : tie.Need-epoch-of-requires
 epoch-of-requires c κs = search needs
 
-replica-at-requires : tie.Need-replica-at-requires
-replica-at-requires c κs = search needs
+mul-p : tie.Need-mul-p
+mul-p c = search needs
+
+element-copy-out-p : tie.Need-element-copy-out-p
+element-copy-out-p c = search needs
 
 become-follower-and-truncate-to-requires : tie.Need-become-follower-and-truncate-to-requires
 become-follower-and-truncate-to-requires c κs = search needs
 
-with-replica-requires : tie.Need-with-replica-requires
-with-replica-requires c κs = search needs
+mul-following : tie.Need-mul-following
+mul-following c = search needs
+
+element-set-from-following : tie.Need-element-set-from-following
+element-set-from-following c = search needs
 
 returns : tie.Need-returns
-unfolding becomeFollower
+unfolding becomeFollower withReplica
 returns c =
-    let e : toZ w8 (ofZ w8 (c .before .before .before .epoch-of .result)) ≡ c .before .before .before .epoch-of .result = search needs in
-    let x = c .before .before .before .before .before .args in
-    c .with-replica .ensures
-    ∙ ap (withReplica (x .self) (x .a))
-    (c .before .become-follower-and-truncate-to .ensures
-    ∙ ap (λ (z : ℤ). becomeFollowerAndTruncateTo (c .before .before .replica-at .result) z (c .before .before .before .before .request-at .result .leader) (c .before .before .before .before .request-at .result .isr) (x .truncation-offset)) (e ∙ c .before .before .before .epoch-of .ensures)
-    ∙ ap₂ (λ (p : Replica) (q : Request). becomeFollowerAndTruncateTo p (pos (x .e)) (q .leader) (q .isr) (x .truncation-offset)) (c .before .before .replica-at .ensures) (c .before .before .before .before .request-at .ensures))
+    let e : toZ w8 (ofZ w8 (c .before .before .epoch-of .result)) ≡ c .before .before .epoch-of .result = search needs in
+    rw (c .become-follower-and-truncate-to .ensures) (rw (e ∙ c .before .before .epoch-of .ensures))
 
 pub become-follower-spec : {M : Type 1} → statement M
 become-follower-spec =
     tie.close
     (tie.spec
-    request-at-requires
+    mul-q
+    element-copy-out-q
     epoch-of-requires
-    replica-at-requires
+    mul-p
+    element-copy-out-p
     become-follower-and-truncate-to-requires
-    with-replica-requires
+    mul-following
+    element-set-from-following
     returns)

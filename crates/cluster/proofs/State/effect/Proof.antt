@@ -67,7 +67,7 @@ enum-told-6 c = search needs
 
 leader-shrink-isr-requires : tie.Need-leader-shrink-isr-requires
 unfolding uses
-leader-shrink-isr-requires c κs = (c .before .before .before .pre .0, operands (c .before .before) LeaderShrinkIsr (c .enum-told6 .given .1) .a-below refl)
+leader-shrink-isr-requires c κs = (c .before .before .before .pre .0, (operands (c .before .before) LeaderShrinkIsr (c .enum-told6 .given .1) .a-below refl, operands (c .before .before) LeaderShrinkIsr (c .enum-told6 .given .1) .b-below refl))
 
 enum-told-7 : tie.Need-enum-told-7
 enum-told-7 c = search needs
