@@ -2,6 +2,7 @@
 //! must be equal; the buffer is lent with random bytes in it, at a random length, inside a larger
 //! room, so that a byte written past its end shows too.
 
+use crate::failures::Failures;
 use harness::answers::{self, Verdict};
 use harness::layout::{Action, LONGEST_IMAGE, STATE, VERDICT};
 use harness::proved;
@@ -28,6 +29,8 @@ pub struct Both {
     pub differences: u64,
     /// How often each number was answered, verdicts' refusals included.
     pub met: [u64; 256],
+    /// By which kinds of actions weak and strong ISR first failed in random runs.
+    pub failures: Failures,
 }
 
 impl Both {
@@ -39,6 +42,7 @@ impl Both {
             tested: 0,
             differences: 0,
             met: [0; 256],
+            failures: Failures::default(),
         }
     }
 
@@ -51,6 +55,7 @@ impl Both {
         for (sum, count) in self.met.iter_mut().zip(other.met) {
             *sum += count;
         }
+        self.failures.add(&other.failures);
     }
 
     /// A length for the buffer: exact, longer, now and then shorter or 0.

@@ -59,15 +59,14 @@ fn walk(both: &mut Both, run: &[u8]) -> u64 {
 /// Random runs; of every eighth, each state on the way; and a few runs of the greatest length.
 pub fn random_runs(both: &mut Both, scale: usize) -> String {
     let (count, longest) = (150_000 * scale, 60 * scale);
-    let (mut whole, mut accepted, mut weak, mut strong, mut states) = (0, 0, 0, 0, 0);
+    let (mut whole, mut accepted, mut states) = (0, 0, 0);
     for i in 0..count {
         let length = course::run_length(&mut both.random);
         let run = course::run(&mut both.random, length);
         let verdict = both.judge(&run);
         whole += u64::from(verdict.refusal == 0);
         accepted += u64::from(verdict.accepted);
-        weak += u64::from(verdict.weak > 0);
-        strong += u64::from(verdict.strong > 0);
+        both.failures.count(&run, &verdict);
         if i % 8 == 0 && length <= 200 {
             states += walk(both, &run);
         }
@@ -76,10 +75,18 @@ pub fn random_runs(both: &mut Both, scale: usize) -> String {
         let run = longest_run(both);
         accepted += u64::from(both.judge(&run).accepted);
     }
+    let (weak, strong) = both.failures.totals();
     format!(
         "runs {} (accepted to the end {}, weak failed {}, strong failed {}, states on the way {}), \
-         longest runs {}, accepted actions {}",
-        count, whole, weak, strong, states, longest, accepted
+         longest runs {}, accepted actions {}; {}",
+        count,
+        whole,
+        weak,
+        strong,
+        states,
+        longest,
+        accepted,
+        both.failures.line()
     )
 }
 

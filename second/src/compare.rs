@@ -6,6 +6,7 @@
 mod both;
 mod classes;
 mod explore;
+mod failures;
 mod programs;
 mod properties;
 
@@ -117,6 +118,8 @@ fn compare_all(options: &Options) -> bool {
         total.add(&both);
     }
     let all_met = options.only.is_some() || all_numbers_met(&total);
+    let runs_drawn = options.only.iter().all(|only| only == "runs");
+    let all_kinds = !runs_drawn || total.failures.by_all_kinds();
     println!(
         "single actions {}, properties tested {}",
         total.actions, total.tested
@@ -125,7 +128,7 @@ fn compare_all(options: &Options) -> bool {
         "compare: {} compared, {} differences",
         total.compared, total.differences
     );
-    all_met && total.differences == 0
+    all_met && all_kinds && total.differences == 0
 }
 
 /// A comparison that never meets a number does not test it.
