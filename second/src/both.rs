@@ -20,6 +20,8 @@ type Ask<'a> = &'a dyn Fn(&mut [u8]) -> u32;
 
 pub struct Both {
     pub random: Random,
+    /// Whether a buffer may be too short for the answer, which then is not compared.
+    pub short_buffers: bool,
     /// Questions put to both.
     pub compared: u64,
     /// Of these, single actions.
@@ -37,6 +39,7 @@ impl Both {
     pub fn new(random: Random) -> Both {
         Both {
             random,
+            short_buffers: true,
             compared: 0,
             actions: 0,
             tested: 0,
@@ -58,12 +61,13 @@ impl Both {
         self.failures.add(&other.failures);
     }
 
-    /// A length for the buffer: exact, longer, now and then shorter or 0.
+    /// A length for the buffer: exact, longer, now and then shorter or 0 where that may be.
     fn length(&mut self, exact: usize) -> usize {
+        let short = self.short_buffers;
         match self.random.below(32) {
-            0 => 0,
-            1 => exact - 1,
-            2 => self.random.below(exact),
+            0 if short => 0,
+            1 if short => exact - 1,
+            2 if short => self.random.below(exact),
             3..=15 => exact,
             _ => exact + self.random.below(LONGER + 1),
         }

@@ -1,10 +1,12 @@
 //! Every reachable state of small clusters, breadth first, each with every action of the operand
-//! ranges and just past them.
+//! ranges and just past them. Then every accepted action again, as the last of a run that is judged.
+//! No buffer is too short here, so that every answer is compared.
 
 use crate::both::Both;
 use crate::classes::every_question;
 use crate::properties;
-use harness::answers;
+use harness::answers::{self, Verdict};
+use harness::course;
 use harness::layout::*;
 use std::collections::{HashSet, VecDeque};
 
@@ -39,31 +41,45 @@ const ALWAYS: [Cluster; 7] = [
 ];
 /// Larger ones, for a scale above 1.
 const SCALED: [Cluster; 4] = [
+    JUDGED,
     whole(3, 2, 2, 1),
     whole(3, 1, 1, 2),
-    whole(2, 2, 2, 3),
     up_to_renaming(4, 1, 1, 1),
 ];
+/// Judged at every scale: in its runs weak ISR and strong ISR each first fail by all the kinds that
+/// can break them, 2, 3, 6 and 7.
+const JUDGED: Cluster = whole(2, 2, 2, 3);
 
 pub fn explore(both: &mut Both, scale: usize) -> String {
+    both.short_buffers = false;
+    let (explored, judged) = if scale > 1 {
+        (&SCALED[..], &SCALED[..])
+    } else {
+        (&[][..], &[JUDGED][..])
+    };
     let mut line = String::from("explored");
-    for cluster in ALWAYS
-        .iter()
-        .chain(if scale > 1 { &SCALED[..] } else { &[] })
-    {
+    for cluster in ALWAYS.iter().chain(explored) {
         let (states, accepted) = explore_cluster(both, cluster);
-        let c = cluster.configuration;
-        let how = if cluster.up_to_renaming {
+        line += &format!(
+            " ({}: states {}, accepted actions {})",
+            cluster.name(),
+            states,
+            accepted
+        );
+    }
+    line + &judge_clusters(both, ALWAYS.iter().chain(judged))
+}
+
+impl Cluster {
+    fn name(&self) -> String {
+        let [r, l, m, x] = self.configuration;
+        let how = if self.up_to_renaming {
             " up to renaming"
         } else {
             ""
         };
-        line += &format!(
-            " (R {} L {} M {} X {}{}: states {}, accepted actions {})",
-            c[0], c[1], c[2], c[3], how, states, accepted
-        );
+        format!("R {} L {} M {} X {}{}", r, l, m, x, how)
     }
-    line
 }
 
 fn explore_cluster(both: &mut Both, cluster: &Cluster) -> (usize, u64) {
@@ -87,6 +103,56 @@ fn explore_cluster(both: &mut Both, cluster: &Cluster) -> (usize, u64) {
         }
     }
     (seen.len(), accepted)
+}
+
+/// A state and its past, which is what later verdicts take from the run before it, beside the
+/// number of actions: whether weak ISR has failed, whether strong ISR has, and what was exposed.
+type WithPast = (Flat, bool, bool, u32);
+
+fn with_past(verdict: &Verdict, cluster: &Cluster) -> WithPast {
+    let state = standing_for(&verdict.state, cluster);
+    let (weak, strong) = (verdict.weak > 0, verdict.strong > 0);
+    (state, weak, strong, verdict.exposed)
+}
+
+/// Judges runs of each cluster; answers the counts, and the number of all runs.
+fn judge_clusters<'a>(both: &mut Both, clusters: impl Iterator<Item = &'a Cluster>) -> String {
+    let (mut line, mut all) = (String::new(), 0);
+    for cluster in clusters {
+        let (states, runs) = judge_cluster(both, cluster);
+        line += &format!(
+            " ({}: states with pasts {}, runs {})",
+            cluster.name(),
+            states,
+            runs
+        );
+        all += runs;
+    }
+    format!("; runs judged {}{}", all, line)
+}
+
+/// Takes every reachable state with each past that it can have, and judges the run that first led
+/// to them, with each accepted action at its end. The pasts matter: after a property failed it is
+/// not asked again. Answers how many states with pasts there are, and how many runs were judged.
+fn judge_cluster(both: &mut Both, cluster: &Cluster) -> (usize, u64) {
+    let mut seen: HashSet<WithPast> = HashSet::new();
+    let mut queue: VecDeque<(Flat, Vec<u8>)> = VecDeque::new();
+    let mut judged = 0;
+    let first = configuration_record(cluster.configuration).to_vec();
+    let verdict = both.judge(&first);
+    seen.insert(with_past(&verdict, cluster));
+    queue.push_back((verdict.state, first));
+    while let Some((state, run)) = queue.pop_front() {
+        for action in course::accepted_actions(&state) {
+            let longer = [&run[..], &action_record(action)].concat();
+            let verdict = both.judge(&longer);
+            judged += 1;
+            if seen.insert(with_past(&verdict, cluster)) {
+                queue.push_back((verdict.state, longer));
+            }
+        }
+    }
+    (seen.len(), judged)
 }
 
 /// The state under which a state is remembered.
@@ -114,8 +180,7 @@ fn all_actions(c: [u8; 4]) -> Vec<Action> {
 
 /// The action through both; the next state where it is accepted.
 fn compared_act(both: &mut Both, state: &Flat, action: Action) -> Option<Flat> {
-    let number = both.act(state, action);
-    if number != 0 && number != 24 {
+    if both.act(state, action) != 0 {
         return None;
     }
     answers::act(state, action).ok()
