@@ -1,7 +1,7 @@
 //! The speed of the proved library beside that of the second implementation. A ratio is the
 //! second's time over the proved's: 1.0 or more means that the proved code is at least as fast.
 //!
-//! bench [PROCESSES]   the tables, over so many processes, at least 7; else 16
+//! bench [PROCESSES]   the tables, over so many processes, at least 7; 16 if none is given
 //! bench once          the rows of one process
 //!
 //! Where the stack lies in a process moves a ratio by a tenth, in a few places by far more. So the
@@ -135,8 +135,9 @@ fn print_tables(all: &[Vec<Row>]) {
         bench_measures::ROUNDS,
         bench_inputs::SEED
     );
-    println!("Ratio: the second's time over the proved's. In brackets: how many actions of 100");
-    println!("are leader shrinks or leader expands.\n");
+    println!("Ratio: the second's time over the proved's. In brackets: how many judged actions of");
+    println!("100 are leader shrinks or leader expands; and in how many accepted actions of 100");
+    println!("weak ISR had not failed before, since later neither side asks it in that run.\n");
     println!(
         "| measure | proved, per second | second, per second | ratio, median | ratio, lowest |"
     );

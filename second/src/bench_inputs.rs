@@ -9,7 +9,7 @@ use std::process::exit;
 pub const SEED: u64 = 1;
 pub const MOST_ACTIONS: usize = LONGEST_RUN / RECORD - 1;
 /// Runs are made until a measure has so many actions.
-const ACTIONS: usize = 150_000;
+const MEASURE_ACTIONS: usize = 150_000;
 
 pub type MakeRun = fn(&mut Random, u8) -> Vec<u8>;
 
@@ -25,12 +25,12 @@ pub struct Runs {
 /// copy from or to take into its ISR. So of one replica only short runs are measured.
 pub const RUNS: [Runs; 6] = [
     Runs {
-        name: "200 to 2,000 a run, mixed",
-        make: mixed_run,
+        name: "200 to 2,000 a run, mostly ISR changes",
+        make: mostly_changing_run,
         replicas: 2..=5,
     },
     Runs {
-        name: "10,921 a run, mixed",
+        name: "10,921 a run, mostly ISR changes",
         make: longest_run,
         replicas: 2..=5,
     },
@@ -64,7 +64,7 @@ pub fn random(measure: &str) -> Random {
 /// Runs of R replicas, as many as a measure needs.
 pub fn runs(random: &mut Random, make: MakeRun, r: u8) -> Vec<Vec<u8>> {
     let (mut runs, mut actions) = (Vec::new(), 0);
-    while actions < ACTIONS {
+    while actions < MEASURE_ACTIONS {
         let run = make(random, r);
         actions += judged(&run);
         runs.push(run);
@@ -92,6 +92,22 @@ pub fn isr_changes(runs: &[Vec<u8>]) -> usize {
     (100 * runs.iter().map(changes).sum::<usize>() + all / 2) / all
 }
 
+/// In how many accepted actions of 100 weak ISR is still asked: it had not failed in the run before
+/// that action.
+pub fn weak_asked(runs: &[Vec<u8>]) -> usize {
+    let (mut asked, mut accepted) = (0, 0);
+    for run in runs {
+        let verdict = answers::judge(run);
+        let last_asked = match verdict.weak {
+            0 => verdict.accepted,
+            failed => failed,
+        };
+        asked += last_asked as usize;
+        accepted += verdict.accepted as usize;
+    }
+    (100 * asked + accepted / 2) / accepted
+}
+
 /// The run, which must be accepted to its end.
 fn accepted(run: Vec<u8>) -> Vec<u8> {
     if answers::judge(&run).refusal != 0 {
@@ -108,7 +124,7 @@ fn greatest(r: u8) -> [u8; 4] {
 
 /// A run with large L, M and X. Most of its actions change an ISR, since all others use up epochs,
 /// ids or offsets.
-fn mixed_run(random: &mut Random, r: u8) -> Vec<u8> {
+fn mostly_changing_run(random: &mut Random, r: u8) -> Vec<u8> {
     let (l, m, x) = (
         random.within(12, 16),
         random.within(48, 64),
@@ -118,12 +134,13 @@ fn mixed_run(random: &mut Random, r: u8) -> Vec<u8> {
     accepted(course::accepted_run(random, [r, l, m, x], actions).run)
 }
 
-/// A run of the greatest length.
+/// A run of the greatest length, of which still more actions change an ISR.
 pub fn longest_run(random: &mut Random, r: u8) -> Vec<u8> {
     accepted(course::accepted_run(random, greatest(r), MOST_ACTIONS).run)
 }
 
-/// A run of the greatest length that changes a leader's ISR, the same work at every length.
+/// A run of the greatest length that changes a leader's ISR, the same work at every length. Its high
+/// watermarks stay 0, so no records are compared there.
 pub fn changing_run(random: &mut Random, r: u8) -> Vec<u8> {
     accepted(course::isr_changes_run(random, greatest(r), MOST_ACTIONS).run)
 }

@@ -23,7 +23,7 @@ pub const SPEEDS: Table = "speeds";
 pub const LENGTHS: Table = "lengths";
 
 /// About how many actions make a part.
-const ACTIONS: usize = 10_000;
+const PART_ACTIONS: usize = 10_000;
 /// How many representatives make a part, for 1 to 5 replicas.
 const REPRESENTATIVES: [usize; 5] = [5_000, 3_000, 1_500, 600, 150];
 /// How many images make a part.
@@ -56,14 +56,16 @@ struct Times {
     second: f64,
 }
 
-/// Puts each input to one function.
+/// Puts each input to one function. Of a verdict the number has the low bytes of accepted, weak,
+/// strong and exposed, and a byte of the last state.
 fn asking(ask: Ask) -> Work {
     Box::new(move |inputs| {
         let mut out = [0; VERDICT];
         let mut sum = 0;
         for input in inputs {
             sum += u64::from(ask(input, &mut out));
-            sum += u64::from(out[0]) + u64::from(out[12]) + u64::from(out[90]);
+            sum += u64::from(out[0]) + u64::from(out[12]) + u64::from(out[16]);
+            sum += u64::from(out[20]) + u64::from(out[90]);
         }
         sum
     })
@@ -146,7 +148,7 @@ fn judging(table: Table, name: String, runs: Vec<Vec<u8>>) -> Measure {
         table,
         name,
         units,
-        part: (ACTIONS * runs.len() / units).max(1),
+        part: (PART_ACTIONS * runs.len() / units).max(1),
         inputs: runs,
         proved: asking(proved::judge),
         second: asking(flat::judge),
@@ -154,15 +156,20 @@ fn judging(table: Table, name: String, runs: Vec<Vec<u8>>) -> Measure {
 }
 
 /// Judging runs of each kind, for each R that it has. The name says how many actions of 100 are
-/// leader shrinks or leader expands.
+/// leader shrinks or leader expands, and in how many weak ISR is still asked.
 fn judging_kinds() -> Vec<Measure> {
     let mut measures = Vec::new();
     for kind in inputs::RUNS {
         for r in kind.replicas {
             let mut random = inputs::random(&format!("{}, R {}", kind.name, r));
             let runs = inputs::runs(&mut random, kind.make, r);
-            let share = inputs::isr_changes(&runs);
-            let name = format!("actions judged, {} ({} in 100), R {}", kind.name, share, r);
+            let name = format!(
+                "actions judged, {} ({} in 100; weak asked in {}), R {}",
+                kind.name,
+                inputs::isr_changes(&runs),
+                inputs::weak_asked(&runs),
+                r
+            );
             measures.push(judging(SPEEDS, name, runs));
         }
     }
@@ -240,8 +247,9 @@ fn all_measures() -> Vec<Measure> {
     all.extend(images("R 5, full logs", inputs::full_states(20_000)));
     all.extend(images("states of runs", inputs::reached_states(20_000)));
     for r in [3, 5] {
-        all.extend(judging_lengths("ISR changes", inputs::changing_run, r));
-        all.extend(judging_lengths("mixed", inputs::longest_run, r));
+        let (only, mostly) = ("ISR changes only", "mostly ISR changes");
+        all.extend(judging_lengths(only, inputs::changing_run, r));
+        all.extend(judging_lengths(mostly, inputs::longest_run, r));
     }
     all
 }
