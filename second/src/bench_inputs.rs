@@ -1,6 +1,6 @@
 //! What the measures are taken on: runs and states, the same in every process.
 
-use harness::layout::{Flat, LONGEST_RUN, RECORD};
+use harness::layout::{Flat, LONGEST_RUN, R, RECORD, STATE};
 use harness::random::Random;
 use harness::{answers, course, draw};
 use std::ops::RangeInclusive;
@@ -194,4 +194,45 @@ pub fn full_states(count: usize) -> Vec<Vec<u8>> {
     let mut random = random("full logs");
     let mut full = || draw::full_state(&mut random, 5);
     (0..count).map(|_| full().to_vec()).collect()
+}
+
+/// What is asked of a state, as bytes that stand behind it.
+pub type More = fn(&mut Random, &Flat) -> Vec<u8>;
+
+/// Each state with what is asked of it behind it.
+pub fn followed(measure: &str, states: &[Vec<u8>], more: More) -> Vec<Vec<u8>> {
+    let mut random = random(measure);
+    let with_more = |state: &Vec<u8>| {
+        let mut flat: Flat = [0; STATE];
+        flat.copy_from_slice(state);
+        [&state[..], &more(&mut random, &flat)].concat()
+    };
+    states.iter().map(with_more).collect()
+}
+
+pub fn nothing(_: &mut Random, _: &Flat) -> Vec<u8> {
+    Vec::new()
+}
+
+/// One of the accepted actions, or an unknown kind where there is none.
+pub fn accepted_action(random: &mut Random, state: &Flat) -> Vec<u8> {
+    let all = course::accepted_actions(state);
+    if all.is_empty() {
+        vec![255, 0, 0, 0]
+    } else {
+        random.pick(&all).to_vec()
+    }
+}
+
+/// An action that may be refused.
+pub fn any_action(random: &mut Random, state: &Flat) -> Vec<u8> {
+    course::any_action(random, state).to_vec()
+}
+
+pub fn any_kind(random: &mut Random, _: &Flat) -> Vec<u8> {
+    vec![random.within(0, 8)]
+}
+
+pub fn any_places(random: &mut Random, state: &Flat) -> Vec<u8> {
+    draw::renaming(random, state[R]).to_vec()
 }

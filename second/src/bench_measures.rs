@@ -6,9 +6,9 @@
 //! disturbs little. All measures are timed by one function at one depth of the stack, so that rows
 //! of a process can be compared.
 
-use crate::bench_inputs::{self as inputs, MakeRun, MOST_ACTIONS};
+use crate::bench_inputs::{self as inputs, MakeRun, More, MOST_ACTIONS};
 use harness::draw;
-use harness::layout::{Flat, LONGEST_IMAGE, RECORD, VERDICT};
+use harness::layout::{Flat, LONGEST_IMAGE, RECORD, STATE, VERDICT};
 use harness::random::Random;
 use harness::{answers, proved};
 use second::flat;
@@ -26,7 +26,7 @@ pub const LENGTHS: Table = "lengths";
 const PART_ACTIONS: usize = 10_000;
 /// How many representatives make a part, for 1 to 5 replicas.
 const REPRESENTATIVES: [usize; 5] = [5_000, 3_000, 1_500, 600, 150];
-/// How many images make a part.
+/// How many images make a part, and how many states of which something else is asked.
 const IMAGES: usize = 4_000;
 /// To how many actions the longest runs are cut.
 const CUTS: [usize; 5] = [1_000, 2_000, 4_000, 8_000, MOST_ACTIONS];
@@ -240,12 +240,84 @@ fn images(which: &str, states: Vec<Vec<u8>>) -> [Measure; 2] {
     [written, read]
 }
 
+/// What is asked of a state stands behind it in one input: here an action.
+fn proved_act(input: &[u8], out: &mut [u8]) -> u8 {
+    let (state, action) = input.split_at(STATE);
+    proved::act(state, action[0], action[1], action[2], action[3], out)
+}
+
+fn second_act(input: &[u8], out: &mut [u8]) -> u8 {
+    let (state, action) = input.split_at(STATE);
+    flat::act(state, action[0], action[1], action[2], action[3], out)
+}
+
+/// A kind of which the smallest accepted action is asked.
+fn proved_offer(input: &[u8], out: &mut [u8]) -> u8 {
+    proved::offer(&input[..STATE], input[STATE], out)
+}
+
+fn second_offer(input: &[u8], out: &mut [u8]) -> u8 {
+    flat::offer(&input[..STATE], input[STATE], out)
+}
+
+/// The five places of a renaming.
+fn proved_rename(input: &[u8], out: &mut [u8]) -> u8 {
+    let (state, places) = input.split_at(STATE);
+    proved::rename(state, places, out)
+}
+
+fn second_rename(input: &[u8], out: &mut [u8]) -> u8 {
+    let (state, places) = input.split_at(STATE);
+    flat::rename(state, places, out)
+}
+
+/// The other functions on states, each asked once of each state.
+fn single_answers(which: &str, states: &[Vec<u8>]) -> Vec<Measure> {
+    let asks: [(&str, More, Ask, Ask); 6] = [
+        (
+            "accepted actions",
+            inputs::accepted_action,
+            proved_act,
+            second_act,
+        ),
+        ("any actions", inputs::any_action, proved_act, second_act),
+        ("weak ISR", inputs::nothing, proved::weak, flat::weak),
+        ("strong ISR", inputs::nothing, proved::strong, flat::strong),
+        ("offers", inputs::any_kind, proved_offer, second_offer),
+        (
+            "renamed states",
+            inputs::any_places,
+            proved_rename,
+            second_rename,
+        ),
+    ];
+    let measure = |(what, more, proved, second): (&str, More, Ask, Ask)| {
+        let name = format!("{}, {}", what, which);
+        let inputs = inputs::followed(&name, states, more);
+        Measure {
+            table: SPEEDS,
+            name,
+            units: inputs.len(),
+            inputs,
+            part: IMAGES,
+            proved: asking(proved),
+            second: asking(second),
+        }
+    };
+    asks.map(measure).into()
+}
+
 /// Every measure, in the order of the tables.
 fn all_measures() -> Vec<Measure> {
     let mut all = judging_kinds();
     all.extend((1..=5).flat_map(representatives));
-    all.extend(images("R 5, full logs", inputs::full_states(20_000)));
-    all.extend(images("states of runs", inputs::reached_states(20_000)));
+    for (which, states) in [
+        ("R 5, full logs", inputs::full_states(20_000)),
+        ("states of runs", inputs::reached_states(20_000)),
+    ] {
+        all.extend(single_answers(which, &states));
+        all.extend(images(which, states));
+    }
     for r in [3, 5] {
         let (only, mostly) = ("ISR changes only", "mostly ISR changes");
         all.extend(judging_lengths(only, inputs::changing_run, r));
