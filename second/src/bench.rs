@@ -29,15 +29,15 @@ struct Row {
 /// A row from its line: table, name, proved, second, with tabs between.
 fn row(line: &str) -> Option<Row> {
     let cells: Vec<&str> = line.split('\t').collect();
-    let [table, name, proved, second] = cells[..] else {
-        return None;
-    };
-    Some(Row {
-        table: table.to_string(),
-        name: name.to_string(),
-        proved: proved.parse().ok()?,
-        second: second.parse().ok()?,
-    })
+    match cells[..] {
+        [table, name, proved, second] => Some(Row {
+            table: table.to_string(),
+            name: name.to_string(),
+            proved: proved.parse().ok()?,
+            second: second.parse().ok()?,
+        }),
+        _ => None,
+    }
 }
 
 /// Bytes for the environment, below which the stack begins. The processes are spread over a page of

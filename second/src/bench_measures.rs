@@ -1,7 +1,7 @@
 //! The measures of one process: both sides in turn on the same inputs, through the same flat
 //! functions, a row for each measure.
 //!
-//! The inputs are split into parts of about a millisecond. Each part is timed on both sides in
+//! The inputs are split into parts of a few milliseconds at most. Each part is timed on both sides in
 //! every round, and the best of its rounds counts, so that other work on the same processor
 //! disturbs little. All measures are timed by one function at one depth of the stack, so that rows
 //! of a process can be compared.
@@ -26,8 +26,8 @@ pub const LENGTHS: Table = "lengths";
 const PART_ACTIONS: usize = 10_000;
 /// How many representatives make a part, for 1 to 5 replicas.
 const REPRESENTATIVES: [usize; 5] = [5_000, 3_000, 1_500, 600, 150];
-/// How many images make a part, and how many states of which something else is asked.
-const IMAGES: usize = 4_000;
+/// How many states make a part, or their images.
+const STATES: usize = 4_000;
 /// To how many actions the longest runs are cut.
 const CUTS: [usize; 5] = [1_000, 2_000, 4_000, 8_000, MOST_ACTIONS];
 
@@ -224,7 +224,7 @@ fn images(which: &str, states: Vec<Vec<u8>>) -> [Measure; 2] {
         name: format!("images written, {}", which),
         units: states.len(),
         inputs: states,
-        part: IMAGES,
+        part: STATES,
         proved: writing(proved::write_image),
         second: writing(flat::write_image),
     };
@@ -233,7 +233,7 @@ fn images(which: &str, states: Vec<Vec<u8>>) -> [Measure; 2] {
         name: format!("images read, {}", which),
         units: images.len(),
         inputs: images,
-        part: IMAGES,
+        part: STATES,
         proved: asking(proved::read_image),
         second: asking(flat::read_image),
     };
@@ -299,7 +299,7 @@ fn single_answers(which: &str, states: &[Vec<u8>]) -> Vec<Measure> {
             name,
             units: inputs.len(),
             inputs,
-            part: IMAGES,
+            part: STATES,
             proved: asking(proved),
             second: asking(second),
         }

@@ -46,8 +46,8 @@ const SCALED: [Cluster; 4] = [
     whole(3, 1, 1, 2),
     up_to_renaming(4, 1, 1, 1),
 ];
-/// Judged at every scale: in its runs weak ISR and strong ISR each first fail by all the kinds that
-/// can break them, 2, 3, 6 and 7.
+/// Judged at every scale: in its runs weak ISR and strong ISR were each seen to fail first by all the
+/// kinds that can break them, 2, 3, 6 and 7.
 const JUDGED: Cluster = whole(2, 2, 2, 3);
 
 pub fn explore(both: &mut Both, scale: usize) -> String {

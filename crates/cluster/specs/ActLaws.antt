@@ -70,9 +70,9 @@ module _ (s : State) (h : rules s ≡ true) where
   replicate-room a b l k = omega (arith, replicate-accepted s a b .0 k .behind, end-small b l)
 
 -- ---- kinds 5 and 6
--- an ISR that replica a has joined, or left
+-- an ISR that replica b has joined, or left
 abbrev pub changedIsr : Bool → ℕ → ℕ → ℕ
-changedIsr joins isr a = cond joins (including isr a) (without isr a)
+changedIsr joins isr b = cond joins (including isr b) (without isr b)
 
 -- ---- kinds
 -- a number that is none of 0 to 8 is of no kind

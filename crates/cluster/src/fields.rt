@@ -1,5 +1,5 @@
-// The parts of a state, read by number. The caller shows that the array has the place. A function that changes the state
-// reads from the copy that it changes, since a call that reads the state by value would copy it once more.
+// The parts of a state, read by number. The caller shows that the array has the place. Most functions that change the state
+// read from the copy that they change, since a call that reads the state by value copies it once more.
 ghost use mathlib.Core.Path.{_≡_};
 ghost use Prim.Native.Nat.{_<_};
 ghost use Rattle.cluster.specs.State.{requestAt, replicaAt};

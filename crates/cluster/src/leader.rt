@@ -1,6 +1,6 @@
 // Kinds 4 to 7: what a leader does. The caller of a refusal or of an effect shows that the state meets the rules and that a
 // and b are among its replicas, and so does the caller of what kinds 5 and 6 share; the caller of a write shows also that it
-// is accepted. The other private functions ask of their callers that the array has the replicas.
+// is accepted. What the other private functions ask stands with them.
 ghost use mathlib.Core.Path.{_≡_};
 ghost use mathlib.Core.Bool.{true};
 ghost use Prim.Native.Nat.{_<_};
@@ -24,16 +24,16 @@ use parts::refusal::NOT_TRUE_LEADER;
 use parts::refusal::SAME_REPLICA;
 use replica::Record;
 
-// An ISR that a has joined, or left. The caller shows that the ISR and a are within five replicas.
-fn changed_isr(joins: bool, isr: u8, a: u8) -> u8
+// An ISR that b has joined, or left. The caller shows that the ISR and b are within five replicas.
+fn changed_isr(joins: bool, isr: u8, b: u8) -> u8
     requires { ⌜ isr < 32 ⌝ }
-    requires { ⌜ a < 5 ⌝ }
-    ensures { λ r. ⌜ r ≡ changedIsr joins isr a ⌝ }
+    requires { ⌜ b < 5 ⌝ }
+    ensures { λ r. ⌜ r ≡ changedIsr joins isr b ⌝ }
 {
     if joins {
-        return parts::including_member(isr, a);
+        return parts::including_member(isr, b);
     }
-    parts::without_member(isr, a)
+    parts::without_member(isr, b)
 }
 
 impl State {
@@ -77,8 +77,8 @@ impl State {
         t
     }
 
-    // The state in which a follower has joined or left the ISR of a leader: that ISR is put into the leader and into the
-    // quorum, and no request of it.
+    // The state in which a follower has joined or left the ISR of a leader: it is put into the leader and into the quorum, and no
+    // request is stored.
     fn quorum_update_leader_and_isr(self, leader: u8, follower: u8, joins: bool) -> State
         requires { ⌜ rules self ≡ true ⌝ }
         requires { ⌜ leader < replicaCount (self .limits) ⌝ }

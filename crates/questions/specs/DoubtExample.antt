@@ -27,8 +27,8 @@ use Rattle.cluster.specs.Act.{kindOf, uses, operandBound, operandBounds, operan
 use Rattle.questions.specs.Isr.{isrAsked, offsetsAsked, differAt, smallestFailure, isrAnswer, isrAnswerOf, checkIsr, askIsr, strongIsr}
 
 -- a replica of this state: of epoch 0, under leader 0, with the ISR of all three
-abbrev pub follower : ℕ → ℕ → Replica
-follower hw end = replicaOf hw (pos 0) (Broker 0) 7 end (replicate 16 zeroRecord)
+abbrev pub ofEpochZero : ℕ → ℕ → Replica
+ofEpochZero hw end = replicaOf hw (pos 0) (Broker 0) 7 end (replicate 16 zeroRecord)
 
 -- replica 0 leads with the ISR of all three, and alone has a record and exposes it; the quorum's ISR is 0 alone
 unfoldable pub differingIsrs : State
@@ -36,7 +36,7 @@ differingIsrs =
     stateOf (record { «replica_count» = 3; «log_size» = 1; «max_records» = 1; «max_leader_epoch» = 0 }) 1 1
     (record { epoch = pos 0; leader = Broker 0; isr = 1 })
     (set (replicate 16 zeroRequest) 0 (record { leader = Broker 0; isr = 7 }))
-    (follower 1 1 ∷ follower 0 0 ∷ follower 0 0 ∷ zeroReplica ∷ zeroReplica ∷ [])
+    (ofEpochZero 1 1 ∷ ofEpochZero 0 0 ∷ ofEpochZero 0 0 ∷ zeroReplica ∷ zeroReplica ∷ [])
 
 -- leader 0 takes replica 1 out of its ISR, and so writes replica 2 into the quorum's
 abbrev pub shrink : Action

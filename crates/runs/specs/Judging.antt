@@ -86,9 +86,11 @@ pub record Narrowed (p : Progress) (quorumBefore : ℕ) (next : State) (action :
   pub strong : p .strong ≡ 0 → strongHolds next ≡ holdsAfterAction StrongIsr quorumBefore next action
   pub exposed : exposesMore (action .kind) ≡ false → exposed next ≤ p .exposed
 
+-- it begins so
 pub known-begun : (s : State) → weakHolds s ≡ true → strongHolds s ≡ true → KnownOfState (progressOf 0 recordWidth 0 0 (exposed s)) s
 known-begun s weak strong = record { weak = λ e. weak; strong = λ e. strong; exposed = omega arith }
 
+-- what is known of a state gives that of the next
 pub narrowed : (p : Progress) (s : State) (action : Action) → KnownOfState p s → rules s ≡ true → tidy s ≡ s → actionRefusal s action ≡ accepted
     → Narrowed p (s .quorum .isr) (effect s action) action
 narrowed p s action k h t ok =
@@ -106,6 +108,7 @@ failed-not zero true count h = refl
 failed-not zero false count h = absurd (omega arith)
 failed-not (suc before) holds count h = absurd (omega arith)
 
+-- and what was counted gives what is known of it
 pub known-after : (p : Progress) (s : State) → KnownOfState (counted p s) s
 known-after p s =
     record {

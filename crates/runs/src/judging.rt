@@ -81,8 +81,8 @@ impl Progress {
     }
 
     // One accepted action more, which handed back a state; the quorum's ISR before it is given too. The caller shows that the state
-    // meets the rules, that no count is past the longest run, that the narrow test decides what has not failed, and that only kinds
-    // 2 and 7 expose more.
+    // meets the rules, that no count is past the longest run, that what the narrow test reads is there and decides what has not
+    // failed, and that only kinds 2 and 7 expose more.
     pub(crate) fn after(self, quorum_before: u8, next: State, action: Action) -> Progress
         requires { ⌜ rules next ≡ true ⌝ }
         requires { ⌜ self .accepted ≤ longestRun ⌝ }

@@ -6,7 +6,7 @@ use Rattle.runs.specs.Judging.{failed-before, failed-now}
 use Rattle.runs.proofs.judging.failed_at.Statement.{statement}
 use Rattle.runs.proofs.judging.failed_at.Tie as tie
 
--- what the question answered, where the property has not failed before
+-- what the narrow test answered, where the property has not failed before
 asked : (z : tie.After-holds-after) → let x = z .before .before .args in askIsr (x .property) (x .next) .holds ≡ z .holds-after .result
 asked z = z .before .before .pre .1 .1 (z .before .if1 .left) ∙ sym (z .holds-after .ensures)
 
