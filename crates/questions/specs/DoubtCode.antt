@@ -6,7 +6,7 @@ use native.Mathlib.Omega.{arith}
 use native.Mathlib.Decide.{decLt}
 use lib.Dec.{eqb, ltb}
 use borrow.Author.Tests.{lt-ltb, le-ltb, ne-eqb}
-use Rattle.logic.specs.Tests.{allBelow, all-at, all-by, all-fails, sameTruth, same-truth}
+use Rattle.logic.specs.Tests.{allBelow, all-at, all-by, all-fails, or-yes, sameTruth, same-truth}
 use Rattle.parts.specs.Isr.{member}
 use Rattle.parts.specs.IsrLaws.{member-none}
 use Rattle.parts.specs.Leader.{names}
@@ -30,11 +30,7 @@ module _ (from : ℕ) (p q : Replica) where
 
   pub from-same : (x : ℕ) → holdSameRecord p q x ≡ true → agreeFrom from p q x ≡ true
   unfolding agreeFrom
-  from-same x h = rw h (yes (ltb x from))
-    where
-      yes : (b : Bool) → b || true ≡ true
-      yes true = refl
-      yes false = refl
+  from-same x h = rw h (or-yes (ltb x from))
 
   pub from-differ : (x : ℕ) → from ≤ x → holdSameRecord p q x ≡ false → agreeFrom from p q x ≡ false
   unfolding agreeFrom

@@ -11,7 +11,7 @@ use lib.IntN.{ℤ, pos}
 use lib.ListN.{length, set}
 use lib.Seq.{getD-set-same, getD-set-other}
 use borrow.Author.Tests.{eqb-true, eq-eqb, lt-ltb}
-use Rattle.logic.specs.Tests.{and-left, and-no, true-false}
+use Rattle.logic.specs.Tests.{and-left, and-no, or-yes, true-false}
 use Rattle.logic.specs.Lists.{each-set}
 use Rattle.parts.specs.Refusal.{accepted}
 use Rattle.parts.specs.declared.Leader.{Leader}
@@ -45,10 +45,6 @@ use Rattle.questions.specs.Doubt.{doubtOf, InDoubt, allFive, only, noDou
 pub member-all : (i : ℕ) → i < 5 → member allFive i ≡ true
 unfolding fullIsr
 member-all i l = member-full 5 i (omega arith) ∙ lt-ltb i 5 l
-
-or-yes : (b : Bool) → b || true ≡ true
-or-yes true = refl
-or-yes false = refl
 
 pub member-only : (a : ℕ) → a < 5 → member (only a) a ≡ true
 member-only a l = member-including 0 a a l ∙ ap (λ b. member 0 a || b) (eq-eqb a a refl) ∙ or-yes (member 0 a)
