@@ -5,3 +5,5 @@ pub mod ReplicaLaws
 pub mod LogLaws
 pub mod Marks
 pub mod MarkLaws
+pub mod ReplicaBytes
+pub mod ReplicaBytesLaws

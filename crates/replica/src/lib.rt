@@ -1,4 +1,6 @@
 // One replica and its log of records.
+pub mod bytes;
+
 ghost use mathlib.Core.Path.{_≡_};
 ghost use mathlib.Core.Bool.{cond};
 ghost use mathlib.Core.List.{[], _∷_};
