@@ -1,23 +1,22 @@
 -- What an action answers: its kind and its operands, the refusals before the table, and the next state. Assumes nothing.
-use Prim.Native.Nat.{ℕ, zero, suc, _+_}
+use Prim.Native.Nat.{ℕ, _+_}
 use mathlib.Core.Bool.{Bool, true, false, not, cond}
 use mathlib.Core.List.{List, [], _∷_}
 use lib.Dec.{ltb}
 use lib.ListN.{getD}
 use Rattle.logic.specs.Tests.{every}
-use Rattle.logic.specs.Refuse.{refuse}
-use Rattle.parts.specs.Refusal.{accepted, brokenState, unknownKind, badOperand}
+use Rattle.logic.specs.Refuse.{refuse, firstRefusal, byRefusal}
+use Rattle.parts.specs.Refusal.{accepted, unknownKind, badOperand}
 use Rattle.cluster.specs.declared.Limits.{Limits}
 use Rattle.cluster.specs.declared.State.{State}
-use Rattle.cluster.specs.declared.Outcome.{Outcome}
+use Rattle.cluster.specs.declared.ActionAnswer.{ActionAnswer}
 use Rattle.cluster.specs.declared.Action.{Action}
 use Rattle.cluster.specs.declared.Uses.{Uses}
 use Rattle.cluster.specs.declared.Bounds.{Bounds}
 use Rattle.cluster.specs.declared.Kind.{Kind}
 use Rattle.cluster.specs.declared.Kind.the-variants.{ControllerShrinkIsr, ControllerElectLeader, BecomeLeader, BecomeFollower, LeaderWrite, LeaderShrinkIsr, LeaderExpandIsr, LeaderIncHighWatermark, FollowerReplicate, Unknown}
 use Rattle.cluster.specs.State.{replicaCount, maxLeaderEpoch, tidy}
-use Rattle.cluster.specs.Rules.{rules}
-use Rattle.cluster.specs.Fresh.{answer}
+use Rattle.cluster.specs.Rules.{stateRefusal}
 use Rattle.cluster.specs.Actions.{controllerShrinkIsrRefusal, controllerShrinkIsr, controllerElectLeaderRefusal, controllerElectLeader, becomeLeaderRefusal, becomeLeader, becomeFollowerRefusal, becomeFollowerAndTruncateToHw, leaderWriteRefusal, leaderWrite, leaderShrinkIsrRefusal, leaderShrinkIsr, leaderExpandIsrRefusal, leaderExpandIsr, leaderIncHighWatermarkRefusal, leaderIncHighWatermark, followerReplicateRefusal, followerReplicate}
 
 -- ---- kinds
@@ -37,6 +36,10 @@ kinds =
 
 unfoldable pub kindOf : ℕ → Kind
 kindOf n = getD kinds n Unknown
+
+-- the last of them: a "kind above 8" is unknown
+abbrev pub lastKind : ℕ
+lastKind = 8
 
 -- the action of a kind with these operands
 abbrev pub actionOf : ℕ → ℕ → ℕ → ℕ → Action
@@ -112,7 +115,7 @@ tableEffect Unknown s a b e = s
 -- then the table
 unfoldable pub actionRefusal : State → Action → ℕ
 actionRefusal s action =
-    refuse (ltb 8 (action .kind)) unknownKind
+    refuse (ltb lastKind (action .kind)) unknownKind
     (refuse (not (operandsFit (s .limits) action)) badOperand
     (tableRefusal (kindOf (action .kind)) s (action .a) (action .b) (action .e)))
 
@@ -120,20 +123,28 @@ actionRefusal s action =
 unfoldable pub effect : State → Action → State
 effect s action = tableEffect (kindOf (action .kind)) s (action .a) (action .b) (action .e)
 
--- the answer by a refusal number: the next state at 0, else the number and the state as given
-unfoldable pub answerBy : ℕ → State → State → Outcome
-answerBy zero given next = answer accepted next
-answerBy (suc n) given next = answer (suc n) given
+-- ---- what an action answers
+-- a number, and the state that goes with it
+abbrev pub actionAnswer : ℕ → State → ActionAnswer
+actionAnswer number s = record { refusal = number; state = s }
 
--- what an action answers on such a state
-unfoldable pub step : State → Action → Outcome
+-- refused: "A refused action .. gives back the given state"
+abbrev pub refusedOn : State → ℕ → ActionAnswer
+refusedOn given number = actionAnswer number given
+
+-- by its refusal: the next state at 0, else the number and the state as given
+unfoldable pub answerBy : ℕ → State → State → ActionAnswer
+answerBy number given next = byRefusal number (refusedOn given) (actionAnswer accepted next)
+
+-- on a state that meets the rules and is tidy
+unfoldable pub step : State → Action → ActionAnswer
 step s action = answerBy (actionRefusal s action) s (effect s action)
 
 -- ---- an action on any state
 -- "state breaks a rule 1"; then as above, of the state with zeros in its unused room
 unfoldable pub refusal : State → Action → ℕ
-refusal s action = refuse (not (rules s)) brokenState (actionRefusal (tidy s) action)
+refusal s action = firstRefusal (stateRefusal s) (actionRefusal (tidy s) action)
 
 -- what an action answers: accepted, the next state; refused, the number and the state as given
-unfoldable pub act : State → Action → Outcome
+unfoldable pub act : State → Action → ActionAnswer
 act s action = answerBy (refusal s action) s (effect (tidy s) action)

@@ -1,20 +1,20 @@
 -- What the rules give to the code of the actions, and what an action answers by its refusal. Assumes nothing.
-use Prim.Native.Nat.{ℕ, zero, suc, _≤_, _<_}
-use mathlib.Core.Bool.{Bool, cond, true, false, not}
-use mathlib.Core.Path.{ap, refl, _≡_, sym}
+use Prim.Native.Nat.{ℕ, _≤_, _<_}
+use mathlib.Core.Bool.{Bool, cond, true}
+use mathlib.Core.Path.{ap, refl, _≡_, sym, _∙_}
 use native.Mathlib.Omega.{arith}
 use lib.ListN.{length, List·getD-eq-default}
-use Rattle.logic.specs.Table.{cond-true}
-use Rattle.logic.specs.Refuse.{refuse, refuse-no}
-use Rattle.parts.specs.Refusal.{brokenState, accepted}
+use Rattle.logic.specs.Refuse.{first-yes, first-no, first-zero, by-accepted, by-refused, by-number}
+use Rattle.parts.specs.Refusal.{accepted}
 use Rattle.parts.specs.Isr.{including, without}
 use Rattle.parts.specs.IsrLaws.{below-32}
 use Rattle.parts.specs.Leader.{leaderBelow}
 use Rattle.parts.specs.LeaderLaws.{leader-below-iff}
 use Rattle.cluster.specs.Accepted.{EpochLeft, replicate-accepted, write-accepted}
 use Rattle.cluster.specs.declared.Action.{Action}
-use Rattle.cluster.specs.Act.{act, actionRefusal, answerBy, effect, refusal, kinds, kindOf}
-use Rattle.cluster.specs.Fresh.{answer}
+use Rattle.cluster.specs.declared.ActionAnswer.{ActionAnswer}
+use Rattle.cluster.specs.Act.{act, actionRefusal, actionAnswer, refusedOn, answerBy, effect, refusal, kinds, kindOf}
+use Rattle.cluster.specs.RuleLaws.{refusal-met, met-refusal}
 use Rattle.cluster.specs.Rules.{stateRefusal, rules}
 use Rattle.cluster.specs.State.{tidy, replicaCount, logSize, maxLeaderEpoch, nextLeaderEpoch, nextRecordId, requestAt, replicaAt}
 use Rattle.cluster.specs.declared.State.{State}
@@ -94,28 +94,42 @@ kind-unknown n a b c d e f g h i = sym (kind-past n (past-eight n (past-four n a
 -- ---- what an action answers, by its refusal
 pub answer-number : (n : ℕ) (s next : State) → answerBy n s next .refusal ≡ n
 unfolding answerBy
-answer-number zero s next = refl
-answer-number (suc n) s next = refl
+answer-number n s next = by-number (λ (a : ActionAnswer). a .refusal) n (refusedOn s) (actionAnswer accepted next) (λ k. refl) refl
 
-pub answer-zero : (n : ℕ) (s next : State) → n ≡ accepted → answer accepted next ≡ answerBy n s next
+pub answer-zero : (n : ℕ) (s next : State) → n ≡ accepted → actionAnswer accepted next ≡ answerBy n s next
 unfolding answerBy
-answer-zero n s next h = rw h
+answer-zero n s next h = by-accepted n (refusedOn s) (actionAnswer accepted next) h
 
-pub answer-other : (n : ℕ) (s next : State) → (n ≡ accepted → ⊥) → answer n s ≡ answerBy n s next
+pub answer-other : (n : ℕ) (s next : State) → (n ≡ accepted → ⊥) → actionAnswer n s ≡ answerBy n s next
 unfolding answerBy
-answer-other zero s next h = absurd (h refl)
-answer-other (suc n) s next h = refl
+answer-other n s next h = by-refused n (refusedOn s) (actionAnswer accepted next) h
 
 -- a state that breaks a rule
-pub act-broken : (s : State) (action : Action) → (stateRefusal s ≡ accepted → ⊥) → answer (stateRefusal s) s ≡ act s action
-unfolding stateRefusal act refusal answerBy refuse
-act-broken s action h = go (rules s) refl
-  where
-    go : (b : Bool) → rules s ≡ b → answer (cond b accepted brokenState) s ≡ answerBy (refuse (not b) brokenState (actionRefusal (tidy s) action)) s (effect (tidy s) action)
-    go true e = absurd (h (cond-true (rules s) accepted brokenState e))
-    go false e = refl
+pub act-broken : (s : State) (action : Action) → (stateRefusal s ≡ accepted → ⊥) → actionAnswer (stateRefusal s) s ≡ act s action
+unfolding act refusal
+act-broken s action h =
+    answer-other (stateRefusal s) s (effect (tidy s) action) h
+    ∙ ap (λ (n : ℕ). answerBy n s (effect (tidy s) action)) (first-yes (stateRefusal s) (actionRefusal (tidy s) action) h)
 
 -- one that meets them
+pub refusal-of-met : (s : State) (action : Action) → rules s ≡ true → actionRefusal (tidy s) action ≡ refusal s action
+unfolding refusal
+refusal-of-met s action h = first-no (stateRefusal s) (actionRefusal (tidy s) action) (met-refusal s h)
+
 pub act-met : (s : State) (action : Action) → rules s ≡ true → answerBy (actionRefusal (tidy s) action) s (effect (tidy s) action) ≡ act s action
+unfolding act
+act-met s action h = ap (λ (n : ℕ). answerBy n s (effect (tidy s) action)) (refusal-of-met s action h)
+
+-- ---- an accepted action: the state meets the rules, nothing refuses the action on its tidy form, and the next state is the effect
+pub record Accepts (s : State) (action : Action) : Type 0 where
+  pub met : rules s ≡ true
+  pub unrefused : actionRefusal (tidy s) action ≡ accepted
+  pub next : act s action ≡ actionAnswer accepted (effect (tidy s) action)
+
+pub accepts : (s : State) (action : Action) → act s action .refusal ≡ accepted → Accepts s action
 unfolding act refusal
-act-met s action h = ap (λ (n : ℕ). answerBy n s (effect (tidy s) action)) (refuse-no _ _ _ (ap not h))
+accepts s action ok =
+    let n = refusal s action in
+    let e : n ≡ accepted = sym (answer-number n s (effect (tidy s) action)) ∙ ok in
+    let p = first-zero (stateRefusal s) (actionRefusal (tidy s) action) e in
+    record { met = refusal-met s (p .0); unrefused = p .1; next = sym (answer-zero n s (effect (tidy s) action) e) }

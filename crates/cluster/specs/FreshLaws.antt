@@ -1,12 +1,14 @@
 -- The fresh state of every accepted configuration meets S1 to S7 and is tidy. Assumes nothing.
 use Prim.Native.Nat.{ℕ, _+_, _<_}
-use mathlib.Core.Path.{_≡_, refl, _∙_, ap}
-use mathlib.Core.Bool.{Bool, true, false, cond}
+use mathlib.Core.Path.{_≡_, refl, sym, _∙_, ap}
+use mathlib.Core.Bool.{Bool, true, false, not}
+use mathlib.Core.List.{List, [], _∷_}
 use native.Mathlib.Omega.{arith}
 use lib.Dec.{ltb}
 use borrow.Author.Tests.{le-leb, lt-ltb, eq-eqb}
 use Rattle.logic.specs.Tests.{allBelow, all-by, all-none, every, every-none, every-and, and-true}
 use Rattle.logic.specs.Table.{table, tableFrom, getD-table, used-cong, cond-true}
+use Rattle.logic.specs.Refuse.{refuse-yes, refuse-no, byRefusal, by-accepted, listed}
 use Rattle.parts.specs.Refusal.{accepted, badConfiguration}
 use Rattle.parts.specs.Isr.{fullIsr}
 use Rattle.parts.specs.IsrLaws.{none-below, full-below}
@@ -20,7 +22,8 @@ use Rattle.cluster.specs.declared.Outcome.{Outcome}
 use Rattle.cluster.specs.State.{replicaCount, logSize, maxRecords, maxLeaderEpoch, replicaAt, withReplicas, tidy, zeroState}
 use Rattle.cluster.specs.Rules.{inRange, rule1, leaderAndIsrInRange, replicaInRange, rule2, quorumMatchesRequest, rule3, rule4, replicaMatchesRequest, replicaMeetsS5, rule5, rule6, agreesWithAll, rule7, rules}
 use Rattle.cluster.specs.RuleLaws.{Ranges, ranges-of}
-use Rattle.cluster.specs.Fresh.{freshReplica, freshReplicaAt, freshQuorum, freshState, answer, fresh}
+use Rattle.cluster.specs.Outcome.{answer, withZeros}
+use Rattle.cluster.specs.Fresh.{freshReplica, freshReplicaAt, freshQuorum, freshState, limitsRefusal, fresh}
 
 -- a replica of the fresh state is fresh
 pub fresh-replica : (c : Limits) (i : ℕ) → i < 5 → i < replicaCount c → replicaAt (freshState c) i ≡ freshReplica
@@ -112,27 +115,59 @@ pub zero-tidy : tidy zeroState ≡ zeroState
 unfolding tidy table tableFrom tidyReplica
 zero-tidy = refl
 
--- the answer, by whether the configuration is in range
-abbrev answer-by : Limits → Bool → Outcome
-answer-by c b = cond b (answer accepted (freshState c)) (answer badConfiguration zeroState)
+-- a configuration is refused exactly where it is out of range
+limits-refusal-in : (c : Limits) → inRange c ≡ true → limitsRefusal c ≡ accepted
+unfolding limitsRefusal
+limits-refusal-in c h = sym (refuse-no _ badConfiguration accepted (ap not h))
 
--- the state that goes with the answer is tidy, for every configuration
-pub fresh-answer-tidy : (c : Limits) → tidy (fresh c .state) ≡ fresh c .state
+limits-refusal-out : (c : Limits) → inRange c ≡ false → limitsRefusal c ≡ badConfiguration
+unfolding limitsRefusal
+limits-refusal-out c h = sym (refuse-yes _ badConfiguration accepted (ap not h))
+
+-- the answer: the fresh state of a configuration in range, and 22 with zeros for any other
+pub fresh-in : (c : Limits) → inRange c ≡ true → fresh c ≡ answer accepted (freshState c)
 unfolding fresh
-fresh-answer-tidy c = go (inRange c)
+fresh-in c h = sym (by-accepted (limitsRefusal c) withZeros (answer accepted (freshState c)) (limits-refusal-in c h))
+
+pub fresh-out : (c : Limits) → inRange c ≡ false → fresh c ≡ withZeros badConfiguration
+unfolding fresh byRefusal
+fresh-out c h = ap (λ (n : ℕ). byRefusal n withZeros (answer accepted (freshState c))) (limits-refusal-out c h)
+
+-- so its number is 0 or 22
+abbrev pub freshNumbers : List ℕ
+freshNumbers = badConfiguration ∷ []
+
+pub fresh-listed : (c : Limits) → listed (accepted ∷ freshNumbers) (fresh c .refusal) ≡ true
+unfolding listed
+fresh-listed c = go (inRange c) refl
   where
-    go : (b : Bool) → tidy (answer-by c b .state) ≡ answer-by c b .state
-    go true = fresh-tidy c
-    go false = zero-tidy
+    go : (b : Bool) → inRange c ≡ b → listed (accepted ∷ freshNumbers) (fresh c .refusal) ≡ true
+    go true h = rw (fresh-in c h) refl
+    go false h = rw (fresh-out c h) refl
 
 -- where the answer is 0, the configuration is in range, and the state is its fresh state
 pub fresh-accepted : (c : Limits) → fresh c .refusal ≡ accepted → (inRange c ≡ true) × (fresh c .state ≡ freshState c)
-unfolding fresh
-fresh-accepted c = go (inRange c)
+fresh-accepted c ok = go (inRange c) refl
   where
-    go : (b : Bool) → answer-by c b .refusal ≡ accepted → (b ≡ true) × (answer-by c b .state ≡ freshState c)
-    go true h = (refl, refl)
-    go false h = absurd (omega arith)
+    go : (b : Bool) → inRange c ≡ b → (b ≡ true) × (fresh c .state ≡ freshState c)
+    go true h = (refl, ap (λ (o : Outcome). o .state) (fresh-in c h))
+    go false h = absurd (let e = sym (ap (λ (o : Outcome). o .refusal) (fresh-out c h)) ∙ ok in omega arith)
+
+-- "a refused .. fresh state (22) gives an all-zero state"
+pub fresh-refused-zero : (c : Limits) → (fresh c .refusal ≡ accepted → ⊥) → fresh c ≡ answer badConfiguration zeroState
+fresh-refused-zero c refused = go (inRange c) refl
+  where
+    go : (b : Bool) → inRange c ≡ b → fresh c ≡ answer badConfiguration zeroState
+    go true h = absurd (refused (ap (λ (o : Outcome). o .refusal) (fresh-in c h)))
+    go false h = fresh-out c h
+
+-- the state that goes with the answer is tidy, for every configuration
+pub fresh-answer-tidy : (c : Limits) → tidy (fresh c .state) ≡ fresh c .state
+fresh-answer-tidy c = go (inRange c) refl
+  where
+    go : (b : Bool) → inRange c ≡ b → tidy (fresh c .state) ≡ fresh c .state
+    go true h = rw (fresh-in c h) (fresh-tidy c)
+    go false h = rw (fresh-out c h) zero-tidy
 
 -- which meets S1 to S7
 pub fresh-answer-rules : (c : Limits) → fresh c .refusal ≡ accepted → rules (fresh c .state) ≡ true

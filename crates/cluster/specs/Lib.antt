@@ -1,5 +1,6 @@
 pub mod State
 pub mod Rules
+pub mod Outcome
 pub mod Fresh
 pub mod RuleLaws
 pub mod Equality
@@ -13,3 +14,4 @@ pub mod Accepted
 pub mod ActLaws
 pub mod Marks
 pub mod OnePass
+pub mod StateBytes

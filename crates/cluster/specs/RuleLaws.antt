@@ -2,15 +2,15 @@
 use Prim.Native.Nat.{ℕ, zero, suc, _+_, _-_, _≤_}
 use mathlib.Core.Path.{ap, _≡_, refl, sym, _∙_}
 use mathlib.Core.Bool.{Bool, true, false, _&&_}
-use mathlib.Core.List.{List}
+use mathlib.Core.List.{List, _∷_}
 use mathlib.Core.Logic.{_↔_}
 use native.Mathlib.Omega.{arith}
 use lib.Dec.{eqb, leb, eqb·suc-zero}
 use lib.IntN.{ℤ, pos, negsuc}
 use lib.ListN.{drop}
 use borrow.Author.Tests.{leb-true}
-use Rattle.logic.specs.Table.{cond-true, cond-false}
-use Rattle.logic.specs.Tests.{all-at, every-at, firstFailing, failing-here, failing-later, failing-none, failing-zero, and-left, and-right, true-false}
+use Rattle.logic.specs.Refuse.{listed, listed-other, listed-not}
+use Rattle.logic.specs.Tests.{all-at, every-at, firstFailing, failing-here, failing-later, failing-none, failing-zero, and-left, and-right, true-false, refuted-iff}
 use Rattle.parts.specs.declared.Leader.{Leader}
 use Rattle.parts.specs.declared.Leader.the-variants.{None}
 use Rattle.parts.specs.Refusal.{accepted, brokenState}
@@ -23,7 +23,7 @@ use Rattle.cluster.specs.declared.Quorum.{Quorum}
 use Rattle.cluster.specs.declared.Request.{Request}
 use Rattle.cluster.specs.declared.State.{State}
 use Rattle.cluster.specs.State.{replicaCount, logSize, maxRecords, maxLeaderEpoch, nextLeaderEpoch, nextRecordId, requestIn, replicaIn}
-use Rattle.cluster.specs.Rules.{between, limitTests, inRange, rule1Tests, rule1, replicaInRange, replicaInRangeAt, leaderAndIsrInRange, rule2Tests, rule2, quorumMatchesRequest, replicaMatchesRequest, rule7, ruleTests, rules, brokenRule, stateRefusal, Bounded, LogsBounded}
+use Rattle.cluster.specs.Rules.{between, limitTests, inRange, rule1Tests, rule1, replicaInRange, replicaInRangeAt, leaderAndIsrInRange, rule2Tests, rule2, quorumMatchesRequest, replicaMatchesRequest, rule7, ruleTests, rules, brokenRule, ruleRefusal, stateRefusal, stateNumbers, Bounded, LogsBounded}
 
 -- ---- S1
 between-low : (low high n : ℕ) → between low high n ≡ true → low ≤ n
@@ -140,23 +140,64 @@ only-seventh s unmet e = go (rule7 (replicaCount (s .limits)) (s .replicas)) ref
     go true h = absurd (true-false (sym (broken-none s .0 (sym (failing-none 8 ∙ failing-later 7 _ _ h ∙ e))) ∙ unmet))
     go false h = failing-here 7 _ _ h ∙ e
 
--- a state that is not refused meets the rules
-pub refusal-met : (s : State) → stateRefusal s ≡ accepted → rules s ≡ true
-unfolding stateRefusal
-refusal-met s h = go (rules s) refl
-  where
-    go : (b : Bool) → rules s ≡ b → b ≡ true
-    go true e = refl
-    go false e = absurd (let z = sym h ∙ cond-false (rules s) accepted brokenState e in omega arith)
+-- ---- the refusal of a state
+rule-refusal-iff : (k : ℕ) → ruleRefusal k ≡ accepted ↔ k ≡ 0
+unfolding ruleRefusal
+rule-refusal-iff zero = ((λ e. refl), (λ e. refl))
+rule-refusal-iff (suc k) = ((λ e. absurd (omega arith)), (λ e. absurd (omega arith)))
 
--- a number other than 0 is 1, and the state breaks a rule
-pub refusal-broken : (s : State) → (stateRefusal s ≡ accepted → ⊥) → (rules s ≡ false) × (stateRefusal s ≡ brokenState)
+-- a broken rule has a number
+pub rule-refused : (k : ℕ) → ruleRefusal (suc k) ≡ accepted → ⊥
+rule-refused k e = let z = rule-refusal-iff (suc k) .0 e in omega arith
+
+-- a state is refused exactly where it does not meet the rules
+pub unrefused-iff : (s : State) → stateRefusal s ≡ accepted ↔ rules s ≡ true
 unfolding stateRefusal
-refusal-broken s h = go (rules s) refl
+unrefused-iff s = (
+  (λ e. broken-none s .0 (rule-refusal-iff (brokenRule s) .0 e)),
+  (λ h. rule-refusal-iff (brokenRule s) .1 (broken-none s .1 h)),
+)
+
+pub refusal-met : (s : State) → stateRefusal s ≡ accepted → rules s ≡ true
+refusal-met s = unrefused-iff s .0
+
+pub met-refusal : (s : State) → rules s ≡ true → stateRefusal s ≡ accepted
+met-refusal s = unrefused-iff s .1
+
+pub refusal-broken : (s : State) → (stateRefusal s ≡ accepted → ⊥) → rules s ≡ false
+refusal-broken s h = refuted-iff (rules s) (unrefused-iff s) .0 h
+
+pub broken-refusal : (s : State) → rules s ≡ false → stateRefusal s ≡ accepted → ⊥
+broken-refusal s h = refuted-iff (rules s) (unrefused-iff s) .1 h
+
+-- and then its number is 1
+pub broken-is : (s : State) → rules s ≡ false → stateRefusal s ≡ brokenState
+unfolding stateRefusal ruleRefusal
+broken-is s h = go (brokenRule s) (λ e. broken-refusal s h (ap ruleRefusal e))
   where
-    go : (b : Bool) → rules s ≡ b → (rules s ≡ false) × (stateRefusal s ≡ brokenState)
-    go true e = absurd (h (cond-true (rules s) accepted brokenState e))
-    go false e = (e, cond-false (rules s) accepted brokenState e)
+    go : (k : ℕ) → (k ≡ 0 → ⊥) → ruleRefusal k ≡ brokenState
+    go zero f = absurd (f refl)
+    go (suc k) f = refl
+
+-- its number is 0 or one of its list
+pub state-listed : (s : State) → listed (accepted ∷ stateNumbers) (stateRefusal s) ≡ true
+unfolding stateRefusal ruleRefusal listed
+state-listed s = go (brokenRule s)
+  where
+    go : (k : ℕ) → listed (accepted ∷ stateNumbers) (ruleRefusal k) ≡ true
+    go zero = refl
+    go (suc k) = refl
+
+-- and one of the list where it breaks a rule
+pub broken-listed : (s : State) → rules s ≡ false → listed stateNumbers (stateRefusal s) ≡ true
+broken-listed s h = listed-other stateNumbers accepted (stateRefusal s) (state-listed s) (broken-refusal s h)
+
+pub broken-listed-iff : (s : State) → rules s ≡ false ↔ listed stateNumbers (stateRefusal s) ≡ true
+unfolding listed
+broken-listed-iff s = (
+  broken-listed s,
+  (λ l. refuted-iff (rules s) (unrefused-iff s) .0 (listed-not stateNumbers (stateRefusal s) accepted l refl)),
+)
 
 -- a state that meets the rules is read past the end of no array
 pub rules-bounded : (s : State) → rules s ≡ true → Bounded s

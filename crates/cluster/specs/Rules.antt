@@ -1,7 +1,7 @@
 -- The state rules S1 to S7, each a test in the words of the paper, "each tested over the whole state before the next".
 -- A rule takes only the fields that it reads; n is R, the number of replicas. Assumes nothing.
 use Prim.Native.Nat.{ℕ, zero, suc, _+_, _≤_, _<_}
-use mathlib.Core.Bool.{Bool, false, not, _&&_, _||_, cond}
+use mathlib.Core.Bool.{Bool, false, not, _&&_, _||_}
 use mathlib.Core.List.{List, [], _∷_}
 use lib.Dec.{eqb, ltb, leb}
 use lib.IntN.{ℤ, pos, negsuc}
@@ -156,9 +156,18 @@ rules s = every (ruleTests s)
 unfoldable pub brokenRule : State → ℕ
 brokenRule s = firstFailing 1 (ruleTests s)
 
--- the refusal of a state: 1 where it breaks any rule
+-- the number that says so: "state breaks a rule 1", whichever it is
+unfoldable pub ruleRefusal : ℕ → ℕ
+ruleRefusal zero = accepted
+ruleRefusal (suc k) = brokenState
+
+-- the refusal of a state
 unfoldable pub stateRefusal : State → ℕ
-stateRefusal s = cond (rules s) accepted brokenState
+stateRefusal s = ruleRefusal (brokenRule s)
+
+-- the numbers that it gives beside 0
+abbrev pub stateNumbers : List ℕ
+stateNumbers = brokenState ∷ []
 
 -- ---- what the rules before it give to the code of a rule
 -- after S1: no array of replicas or requests is read past its end

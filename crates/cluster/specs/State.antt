@@ -11,7 +11,7 @@ use lib.ListN.{getD, set, replicate}
 use Rattle.logic.specs.Table.{table}
 use Rattle.parts.specs.declared.Leader.{Leader}
 use Rattle.parts.specs.declared.Leader.the-variants.{None}
-use Rattle.parts.specs.Mark.{byteAt}
+use Rattle.parts.specs.Mark.{byteAt, markWidth}
 use Rattle.replica.specs.declared.Replica.{Replica}
 use Rattle.replica.specs.Replica.{zeroReplica, noReplica, tidyReplica, SameReplica}
 use Rattle.cluster.specs.declared.Limits.{Limits}
@@ -36,15 +36,19 @@ maxRecords c = c .«max_records»
 abbrev pub maxLeaderEpoch : Limits → ℕ
 maxLeaderEpoch c = c .«max_leader_epoch»
 
--- R, L, M and X of a configuration or an image: the four bytes behind its mark
-abbrev pub limitsOf : List ℕ → Limits
-limitsOf bs =
+-- R, L, M and X: the four bytes from a place on
+abbrev pub limitsAt : ℕ → List ℕ → Limits
+limitsAt at bs =
     record {
-      «replica_count» = byteAt bs 2;
-      «log_size» = byteAt bs 3;
-      «max_records» = byteAt bs 4;
-      «max_leader_epoch» = byteAt bs 5;
+      «replica_count» = byteAt bs at;
+      «log_size» = byteAt bs (at + 1);
+      «max_records» = byteAt bs (at + 2);
+      «max_leader_epoch» = byteAt bs (at + 3);
     }
+
+-- those of a configuration or an image stand behind its mark
+abbrev pub limitsOf : List ℕ → Limits
+limitsOf bs = limitsAt markWidth bs
 
 -- the next epoch: so many epochs are used, and so many requests sent
 abbrev pub nextLeaderEpoch : State → ℕ

@@ -22,7 +22,7 @@ use Rattle.cluster.specs.declared.Quorum.{Quorum}
 use Rattle.cluster.specs.declared.Request.{Request}
 use Rattle.cluster.specs.declared.State.{State}
 use Rattle.cluster.specs.State.{replicaCount, logSize, nextLeaderEpoch, nextRecordId, requestIn, replicaIn, stateOf, Same, tidy}
-use Rattle.cluster.specs.Rules.{leaderAndIsrInRange, replicaInRange, replicaInRangeAt, requestInRangeAt, rule1, rule2, quorumMatchesRequest, rule3, requestLeaderInIsr, rule4, replicaMatchesRequest, replicaMeetsS5, replicaMeetsS5At, rule5, logInUseAt, rule6, agreesWithAt, agreesWithAll, agreesAt, rule7, ruleTests, rules, brokenRule}
+use Rattle.cluster.specs.Rules.{leaderAndIsrInRange, replicaInRange, replicaInRangeAt, requestInRangeAt, rule1, rule2, quorumMatchesRequest, rule3, requestLeaderInIsr, rule4, replicaMatchesRequest, replicaMeetsS5, replicaMeetsS5At, rule5, logInUseAt, rule6, agreesWithAt, agreesWithAll, agreesAt, rule7, ruleTests, rules, brokenRule, ruleRefusal, stateRefusal}
 use Rattle.cluster.specs.RuleLaws.{bounded-of, logs-bounded-of, broken-none}
 use Rattle.cluster.specs.Equality.{state-path, tidy-same}
 
@@ -167,7 +167,11 @@ module _ (s t : State) (m : Same s t) where
   unfolding brokenRule other
   broken-same = failing-cong 1 _ _ _ _ refl from2 ∙ ap brokenRule other-is
 
-  -- and meet the rules alike
+  -- so they are refused alike, and meet the rules alike
+  pub state-refusal-same : stateRefusal s ≡ stateRefusal t
+  unfolding stateRefusal
+  state-refusal-same = ap ruleRefusal broken-same
+
   pub rules-same : rules s ≡ rules t
   rules-same =
       bool-ext (rules s) (rules t)

@@ -6,8 +6,9 @@ ghost use Rattle.cluster.specs.State.{tidy};
 ghost use Rattle.cluster.specs.Rules.{rules};
 ghost use Rattle.cluster.specs.Act.{kindOf, operandsFit, tableRefusal, actionRefusal, effect, step, act};
 use crate::Action;
+use crate::ActionAnswer;
 use crate::Kind;
-use crate::Outcome;
+use crate::LAST_KIND;
 use crate::State;
 use crate::kinds;
 use parts::refusal::ACCEPTED;
@@ -63,7 +64,7 @@ impl State {
         requires { ⌜ rules self ≡ true ⌝ }
         ensures { λ r. ⌜ r ≡ actionRefusal self action ⌝ }
     {
-        if 8 < action.kind {
+        if LAST_KIND < action.kind {
             return UNKNOWN_KIND;
         }
         let limits = self.limits;
@@ -75,7 +76,7 @@ impl State {
 
     // What an action answers on a state that is known to meet the rules and to be tidy: neither is tested. The caller
     // shows both. The answer is that of `act`.
-    fn step(self, action: Action) -> Outcome
+    fn step(self, action: Action) -> ActionAnswer
         requires { ⌜ rules self ≡ true ⌝ }
         requires { ⌜ tidy self ≡ self ⌝ }
         ensures { λ r. ⌜ r ≡ step self action ⌝ }
@@ -83,12 +84,12 @@ impl State {
         let refusal = self.action_refusal(action);
         if refusal == ACCEPTED {
             let next = self.effect(action);
-            return Outcome {
+            return ActionAnswer {
                 refusal: ACCEPTED,
                 state: next,
             };
         }
-        Outcome {
+        ActionAnswer {
             refusal: refusal,
             state: self,
         }
@@ -96,22 +97,22 @@ impl State {
 
     // What an action answers on any state: accepted, 0 and the next state, with zeros in its unused room; refused, the
     // number and the state as given.
-    pub fn act(self, action: Action) -> Outcome
+    pub fn act(self, action: Action) -> ActionAnswer
         ensures { λ r. ⌜ r ≡ act self action ⌝ }
     {
         let broken = self.state_refusal();
         if broken != ACCEPTED {
-            return Outcome {
+            return ActionAnswer {
                 refusal: broken,
                 state: self,
             };
         }
-        let outcome = self.tidy().step(action);
-        if outcome.refusal == ACCEPTED {
-            return outcome;
+        let answer = self.tidy().step(action);
+        if answer.refusal == ACCEPTED {
+            return answer;
         }
-        Outcome {
-            refusal: outcome.refusal,
+        ActionAnswer {
+            refusal: answer.refusal,
             state: self,
         }
     }

@@ -11,9 +11,9 @@ pub mod rules;
 mod tidy;
 
 ghost use mathlib.Core.Path.{_≡_};
-ghost use Prim.Native.Nat.{_≤_};
+ghost use Prim.Native.Nat.{_+_, _≤_};
 ghost use lib.ListN.{length};
-ghost use Rattle.cluster.specs.State.{limitsOf, zeroState, tidy};
+ghost use Rattle.cluster.specs.State.{limitsAt, zeroState, tidy};
 ghost use Rattle.cluster.specs.Rules.{brokenRule, stateRefusal};
 ghost use Rattle.cluster.specs.Fresh.{fresh};
 use parts::Leader;
@@ -62,6 +62,9 @@ pub struct Action {
     pub e: u8,
 }
 
+// The last kind of action.
+pub const LAST_KIND: u8 = 8;
+
 // The kind of an action, by the source's names (kind 3 has a shorter one), and one for every other number.
 pub enum Kind {
     ControllerShrinkIsr,
@@ -90,22 +93,29 @@ pub struct Bounds {
     pub e: u8,
 }
 
-// A number, 0 for accepted, and the state that goes with it.
+// What an action answers: a number, 0 for accepted, and the next state, or the state as given where it is refused.
+pub struct ActionAnswer {
+    pub refusal: u8,
+    pub state: State,
+}
+
+// What a fresh state, a reading, a renaming and a representative answer: a number, 0 for accepted, and the state that goes
+// with it.
 pub struct Outcome {
     pub refusal: u8,
     pub state: State,
 }
 
-// R, L, M and X: the four bytes behind a mark. The caller shows that they are there.
-pub fn limits_of(bytes: &[u8]) -> Limits
-    requires { ⌜ 6 ≤ length (now bytes) ⌝ }
-    ensures { λ r. ⌜ r ≡ limitsOf (now (bytes .entry)) ⌝ }
+// R, L, M and X: the four bytes from a place on. The caller shows that they are there.
+pub fn limits_at(bytes: &[u8], at: usize) -> Limits
+    requires { ⌜ at + 4 ≤ length (now bytes) ⌝ }
+    ensures { λ r. ⌜ r ≡ limitsAt at (now (bytes .entry)) ⌝ }
 {
     Limits {
-        replica_count: bytes[2],
-        log_size: bytes[3],
-        max_records: bytes[4],
-        max_leader_epoch: bytes[5],
+        replica_count: bytes[at],
+        log_size: bytes[at + 1],
+        max_records: bytes[at + 2],
+        max_leader_epoch: bytes[at + 3],
     }
 }
 

@@ -4,10 +4,9 @@ use mathlib.Core.Bool.{true}
 use borrow.Author.Needs.{needs}
 use Rattle.cluster.specs.ActLaws.{act-broken, act-met, answer-number, answer-other, answer-zero}
 use Rattle.cluster.specs.RuleLaws.{refusal-met}
-use Rattle.cluster.specs.declared.Outcome.{Outcome}
+use Rattle.cluster.specs.declared.ActionAnswer.{ActionAnswer}
 use Rattle.cluster.specs.declared.State.{State}
-use Rattle.cluster.specs.Act.{actionRefusal, answerBy, effect, step}
-use Rattle.cluster.specs.Fresh.{answer}
+use Rattle.cluster.specs.Act.{actionRefusal, actionAnswer, answerBy, effect, step}
 use Rattle.cluster.specs.Rules.{rules}
 use Rattle.cluster.specs.Unused.{rules-tidy}
 use Rattle.cluster.specs.State.{tidy}
@@ -23,14 +22,14 @@ unfolding step
 stepped z = z .step .ensures ∙ ap (λ (t : State). step t (z .before .before .before .before .args .action)) (z .before .tidy .ensures)
 
 number : (z : tie.After-step) → let x = z .before .before .before .before .args in z .step .result .refusal ≡ actionRefusal (tidy (x .self)) (x .action)
-number z = ap (λ (o : Outcome). o .refusal) (stepped z) ∙ answer-number _ _ _
+number z = ap (λ (a : ActionAnswer). a .refusal) (stepped z) ∙ answer-number _ _ _
 
 state-refusal-requires : tie.Need-state-refusal-requires
 state-refusal-requires c κs = search needs
 
 returns : tie.Need-returns
 returns c =
-    ap (λ (n : ℕ). answer n (c .before .before .args .self)) (c .before .state-refusal .ensures)
+    ap (λ (n : ℕ). actionAnswer n (c .before .before .args .self)) (c .before .state-refusal .ensures)
     ∙ act-broken (c .before .before .args .self) (c .before .before .args .action) (λ e. c .if1 .taken (c .before .state-refusal .ensures ∙ e))
 
 tidy-requires : tie.Need-tidy-requires
@@ -53,7 +52,7 @@ returns-2 c =
 returns-3 : tie.Need-returns-3
 returns-3 c =
     let s = c .before .before .before .before .before .before .args .self in
-    ap (λ (n : ℕ). answer n s) (number (c .before .before))
+    ap (λ (n : ℕ). actionAnswer n s) (number (c .before .before))
     ∙ answer-other _ s _ (λ e. c .if2 .left (number (c .before .before) ∙ e))
     ∙ act-met s (c .before .before .before .before .before .before .args .action) (met (c .before .before .before .before))
 

@@ -8,16 +8,18 @@ use borrow.Author.Tests.{not-true, not-false}
 use borrow.Author.Needs.{needs}
 use Rattle.logic.specs.Table.{table, table-cong}
 use Rattle.parts.specs.declared.Leader.the-variants.{None}
+use Rattle.parts.specs.Refusal.{accepted, badConfiguration}
 use Rattle.parts.specs.Epoch.{noEpoch}
 use Rattle.parts.specs.Isr.{fullIsr}
 use Rattle.replica.specs.declared.Replica.{Replica}
 use Rattle.replica.specs.Replica.{replicaOf, zeroReplica, noReplica, tidyReplica}
 use Rattle.cluster.specs.State.{replicaCount, nextLeaderEpoch, nextRecordId, stateOf, withReplicas, tidyReplicaAt, zeroState}
-use Rattle.cluster.specs.FreshLaws.{tidy-fresh-replica}
+use Rattle.cluster.specs.FreshLaws.{tidy-fresh-replica, fresh-in, fresh-out}
 use Rattle.cluster.specs.RuleLaws.{ranges-of}
 use Rattle.cluster.specs.declared.State.{State}
 use Rattle.cluster.specs.declared.Limits.{Limits}
-use Rattle.cluster.specs.Fresh.{answer, freshReplica, freshReplicaAt, freshState, fresh}
+use Rattle.cluster.specs.Outcome.{answer}
+use Rattle.cluster.specs.Fresh.{freshReplica, freshReplicaAt, freshState}
 use Rattle.cluster.proofs.State.fresh.Statement.{statement}
 use Rattle.cluster.proofs.State.fresh.Tie as tie
 
@@ -48,10 +50,9 @@ limits-in-range-requires : tie.Need-limits-in-range-requires
 limits-in-range-requires c κs = search needs
 
 returns : tie.Need-returns
-unfolding fresh
 returns c =
-    rw (sym (c .before .limits-in-range .ensures) ∙ not-true _ (c .if1 .taken))
-    (ap (answer 22) (c .before .before .zero .ensures))
+    ap (answer badConfiguration) (c .before .before .zero .ensures)
+    ∙ sym (fresh-out (c .before .before .before .args .limits) (sym (c .before .limits-in-range .ensures) ∙ not-true _ (c .if1 .taken)))
 
 full-isr-requires : tie.Need-full-isr-requires
 full-isr-requires c κs =
@@ -65,16 +66,15 @@ tidy-replicas-requires : tie.Need-tidy-replicas-requires
 tidy-replicas-requires c κs = search needs
 
 returns-2 : tie.Need-returns-2
-unfolding fresh
 returns-2 c =
     let limits = c .before .before .before .before .before .before .args .limits in
-    rw (sym (c .before .before .before .before .limits-in-range .ensures) ∙ not-false _ (c .before .before .before .if1 .left))
-    (ap (answer 0)
+    ap (answer accepted)
     (c .tidy-replicas .ensures
     ∙ ap (λ (z : State). tidied (all limits z (c .before .zero2 .result) (c .before .before .full-isr .result))) (c .before .before .before .before .before .zero .ensures)
     ∙ ap (λ (p : Replica). tidied (all limits zeroState p (c .before .before .full-isr .result))) (c .before .zero2 .ensures)
     ∙ ap (λ (m : ℕ). tidied (all limits zeroState zeroReplica m)) (c .before .before .full-isr .ensures)
-    ∙ all-tidied limits))
+    ∙ all-tidied limits)
+    ∙ sym (fresh-in limits (sym (c .before .before .before .before .limits-in-range .ensures) ∙ not-false _ (c .before .before .before .if1 .left)))
 
 pub fresh-spec : {M : Type 1} → statement M
 fresh-spec =

@@ -2,8 +2,7 @@ use Prim.Native.Nat.{ℕ}
 use mathlib.Core.Path.{_≡_, _∙_, ap, sym}
 use Rattle.parts.specs.Refusal.{accepted}
 use Rattle.cluster.specs.ActLaws.{answer-other, answer-zero}
-use Rattle.cluster.specs.Fresh.{answer}
-use Rattle.cluster.specs.Act.{actionRefusal, answerBy, effect, step}
+use Rattle.cluster.specs.Act.{actionRefusal, actionAnswer, answerBy, effect, step}
 use Rattle.cluster.proofs.State.step.Statement.{statement}
 use Rattle.cluster.proofs.State.step.Tie as tie
 
@@ -20,7 +19,7 @@ effect-requires c κs = (c .before .before .pre .0, not-refused c)
 returns : tie.Need-returns
 unfolding step
 returns c =
-    ap (answer accepted) (c .effect .ensures)
+    ap (actionAnswer accepted) (c .effect .ensures)
     ∙ answer-zero _ (c .before .before .before .args .self) _ (not-refused (c .before))
 
 returns-2 : tie.Need-returns-2
