@@ -3,9 +3,7 @@
 use Prim.Native.Nat.{ℕ, zero, suc}
 use mathlib.Core.Path.{_≡_, refl, sym, _∙_, ap}
 use mathlib.Core.Bool.{true}
-use native.Mathlib.Omega.{arith}
-use borrow.Author.Tests.{not-false}
-use Rattle.logic.specs.Refuse.{refuse-zero}
+use Rattle.logic.specs.Refuse.{byRefusal}
 use Rattle.parts.specs.Refusal.{accepted}
 use Rattle.cluster.specs.declared.State.{State}
 use Rattle.cluster.specs.declared.Action.{Action}
@@ -14,8 +12,8 @@ use Rattle.cluster.specs.Rules.{rules}
 use Rattle.cluster.specs.Predicates.{rules-iff}
 use Rattle.cluster.specs.Equality.{tidy-same, tidy-twice}
 use Rattle.cluster.specs.Unused.{rules-tidy}
-use Rattle.cluster.specs.Act.{kindOf, actionRefusal, effect, answerBy, step, refusal, act}
-use Rattle.cluster.specs.ActLaws.{act-met}
+use Rattle.cluster.specs.Act.{kindOf, actionRefusal, effect, answerBy, step, act}
+use Rattle.cluster.specs.ActLaws.{act-met, accepts}
 use Rattle.cluster.specs.Accepted.{operands-of, action-accepted}
 use Rattle.actions.specs.Tidy.{tidy-iff}
 use Rattle.actions.specs.Sound.{sound-of}
@@ -46,20 +44,14 @@ effect-kept s action h t ok =
 
 -- on any state: it starts from the tidy form, which meets the rules where the state does
 pub act-kept : (s : State) (action : Action) → act s action .refusal ≡ accepted → Kept s (act s action .state)
-unfolding act answerBy refusal
-act-kept s action = go (refusal s action) refl
-  where
-    go : (n : ℕ) → refusal s action ≡ n → answerBy n s (effect (tidy s) action) .refusal ≡ accepted
-        → Kept s (answerBy n s (effect (tidy s) action) .state)
-    go zero e ok =
-        let p = refuse-zero _ _ _ e in
-        let k = effect-kept (tidy s) action (rules-tidy s ∙ not-false _ (p .0)) (tidy-twice s) (p .1) in
-        record { rules = k .rules; tidy = k .tidy; limits = k .limits ∙ tidy-same s .limits }
-    go (suc n) e ok = absurd (omega arith)
+act-kept s action ok =
+    let a = accepts s action ok in
+    let k = effect-kept (tidy s) action (rules-tidy s ∙ a .met) (tidy-twice s) (a .unrefused) in
+    rw (a .next) (record { rules = k .rules; tidy = k .tidy; limits = k .limits ∙ tidy-same s .limits })
 
 -- so a caller that steps on holds rules and tidiness of every state that it reaches, whatever each step answers
 pub step-kept : (s : State) (action : Action) → rules s ≡ true → tidy s ≡ s → Kept s (step s action .state)
-unfolding step answerBy
+unfolding step answerBy byRefusal
 step-kept s action h t = go (actionRefusal s action) refl
   where
     go : (n : ℕ) → actionRefusal s action ≡ n → Kept s (answerBy n s (effect s action) .state)
