@@ -9,7 +9,7 @@ use native.Mathlib.Omega.{arith}
 use lib.Dec.{ltb}
 use borrow.Author.Tests.{lt-ltb, ltb-true}
 use Rattle.logic.specs.Tests.{every-at, every-and, every-none, true-false}
-use Rattle.logic.specs.Refuse.{refuse-zero, refuse-none}
+use Rattle.logic.specs.Refuse.{refuse-none}
 use Rattle.parts.specs.Refusal.{accepted}
 use Rattle.parts.specs.IsrLaws.{member-within}
 use Rattle.cluster.specs.declared.Kind.{Kind}
@@ -20,9 +20,9 @@ use Rattle.cluster.specs.State.{replicaCount, maxLeaderEpoch, tidy}
 use Rattle.cluster.specs.Rules.{rules}
 use Rattle.cluster.specs.Unused.{rules-tidy}
 use Rattle.cluster.specs.Equality.{tidy-twice}
-use Rattle.cluster.specs.Act.{kindOf, uses, operandBounds, operandTests, operandsFit, tableRefusal, tableEffect, actionRefusal, effect, refusal, act}
+use Rattle.cluster.specs.Act.{lastKind, kindOf, uses, operandBounds, operandTests, operandsFit, tableRefusal, tableEffect, actionRefusal, effect, refusal, act}
 use Rattle.cluster.specs.Accepted.{Operands, operand-iff, operands-of, action-accepted, elect-accepted, become-leader-accepted, become-follower-accepted}
-use Rattle.cluster.specs.ActLaws.{kind-past}
+use Rattle.cluster.specs.ActLaws.{kind-past, refusal-of-met}
 use Rattle.actions.specs.Sound.{Sound, sound-of}
 use Rattle.actions.specs.Answers.{act-number, act-accepted}
 use Rattle.published.specs.KafkaReplication.{Constants, ModelState}
@@ -168,12 +168,12 @@ module _ (s : State) (d : Sound (s .limits) s) (u : ModelState) (m : Means (s .l
         }
 
     -- a kind that the table does not refuse is one of the nine
-    kind-known : tableRefusal kind s (action .a) (action .b) (action .e) ≡ accepted → ltb 8 (action .kind) ≡ false
+    kind-known : tableRefusal kind s (action .a) (action .b) (action .e) ≡ accepted → ltb lastKind (action .kind) ≡ false
     unfolding tableRefusal
-    kind-known h = go (ltb 8 (action .kind)) refl
+    kind-known h = go (ltb lastKind (action .kind)) refl
       where
-        go : (b : Bool) → ltb 8 (action .kind) ≡ b → b ≡ false
-        go true q = absurd (let z = rw (kind-past (action .kind) (ltb-true 8 (action .kind) q)) at h in omega (arith, z))
+        go : (b : Bool) → ltb lastKind (action .kind) ≡ b → b ≡ false
+        go true q = absurd (let z = rw (kind-past (action .kind) (ltb-true lastKind (action .kind) q)) at h in omega (arith, z))
         go false q = refl
 
     action-iff : Choice k action u v ↔ (actionRefusal s action ≡ accepted) × Means (s .limits) v (effect s action)
@@ -196,16 +196,16 @@ module _ (s : State) (d : Sound (s .limits) s) (u : ModelState) (m : Means (s .l
 -- ---- an action on any state that meets the rules
 pub engine-is-model : (s : State) → rules s ≡ true → (u : ModelState) → Means (s .limits) u s → (action : Action) (v : ModelState)
     → Choice (constantsOf (s .limits)) action u v ↔ (act s action .refusal ≡ accepted) × Means (s .limits) v (act s action .state)
-unfolding tidy refusal
+unfolding tidy
 engine-is-model s h u m action v =
     let i = action-iff (tidy s) (sound-of (tidy s) (rules-tidy s ∙ h) (tidy-twice s)) u (means-tidy s h u .0 m) v action in (
       (λ t.
           let n = i .0 t in
-          let ok : refusal s action ≡ accepted = refuse-none _ _ _ (ap not h) (n .0) in
+          let ok : refusal s action ≡ accepted = sym (refusal-of-met s action h) ∙ n .0 in
           (act-number s action ∙ ok, rw (act-accepted s action ok) (n .1))),
       (λ t.
           let ok : refusal s action ≡ accepted = sym (act-number s action) ∙ t .0 in
-          i .1 (refuse-zero _ _ _ ok .1, rw (act-accepted s action ok) at (t .1))),
+          i .1 (refusal-of-met s action h ∙ ok, rw (act-accepted s action ok) at (t .1))),
     )
 
 -- from the meaning of the state itself

@@ -6,9 +6,8 @@ use mathlib.Core.Bool.{Bool, true, false, _||_, cond}
 use mathlib.Core.Logic.{_↔_, _⊎_, inl, inr}
 use native.Mathlib.Omega.{arith}
 use lib.Dec.{ltb}
-use borrow.Author.Tests.{le-ltb, ltb-false, not-false}
+use borrow.Author.Tests.{le-ltb, ltb-false}
 use Rattle.logic.specs.Tests.{all-at, all-by, either, bool-ext}
-use Rattle.logic.specs.Refuse.{refuse-zero}
 use Rattle.parts.specs.Refusal.{accepted}
 use Rattle.parts.specs.declared.Leader.the-variants.{Broker}
 use Rattle.parts.specs.Isr.{member}
@@ -25,7 +24,8 @@ use Rattle.cluster.specs.Unused.{rules-tidy}
 use Rattle.cluster.specs.Rules.{rules}
 use Rattle.cluster.specs.Predicates.{Rules, rules-iff}
 use Rattle.cluster.specs.Actions.{replicaPresumesLeadership, becomeFollowerRefusal, becomeFollower}
-use Rattle.cluster.specs.Act.{kindOf, actionRefusal, effect, answerBy, refusal, act}
+use Rattle.cluster.specs.Act.{kindOf, actionRefusal, effect, act}
+use Rattle.cluster.specs.ActLaws.{accepts}
 use Rattle.cluster.specs.Accepted.{Operands, operands-of, action-accepted, presumes-itself, become-follower-accepted}
 use Rattle.actions.specs.Sound.{Sound, sound-of}
 use Rattle.actions.specs.Kinds.{become-follower-at-sound}
@@ -273,16 +273,10 @@ module _ (s : State) (h : rules s ≡ true) (tidied : tidy s ≡ s) (a e offset 
 -- ---- an action on any state starts from the tidy state, of which the property holds exactly where it holds of the state
 pub act-holds-after : (s : State) (action : Action) → act s action .refusal ≡ accepted → (property : Property) → askIsr property s .holds ≡ true
     → askIsr property (act s action .state) .holds ≡ holdsAfterAction property (s .quorum .isr) (act s action .state) action
-unfolding act answerBy refusal
-act-holds-after s action ok property held = go (refusal s action) refl ok
-  where
-    held-tidy : askIsr property (tidy s) .holds ≡ true
-    held-tidy = ap (λ (a : IsrAnswer). a .holds) (isr-same property (tidy s) s (tidy-same s)) ∙ held
-
-    go : (n : ℕ) → refusal s action ≡ n → let o = answerBy n s (effect (tidy s) action) in o .refusal ≡ accepted
-        → askIsr property (o .state) .holds ≡ holdsAfterAction property (s .quorum .isr) (o .state) action
-    go zero e accepts =
-        let p = refuse-zero _ _ _ e in
-        holds-after (tidy s) action (rules-tidy s ∙ not-false _ (p .0)) (tidy-twice s) (p .1) property held-tidy
-        ∙ ap (λ (q : Quorum). holdsAfterAction property (q .isr) (effect (tidy s) action) action) (tidy-same s .quorum)
-    go (suc n) e accepts = absurd (omega arith)
+act-holds-after s action ok property held =
+    let a = accepts s action ok in
+    let held-tidy : askIsr property (tidy s) .holds ≡ true =
+    ap (λ (i : IsrAnswer). i .holds) (isr-same property (tidy s) s (tidy-same s)) ∙ held in
+    rw (a .next)
+    (holds-after (tidy s) action (rules-tidy s ∙ a .met) (tidy-twice s) (a .unrefused) property held-tidy
+    ∙ ap (λ (q : Quorum). holdsAfterAction property (q .isr) (effect (tidy s) action) action) (tidy-same s .quorum))

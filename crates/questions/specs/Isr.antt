@@ -3,13 +3,14 @@
 use Prim.Native.Nat.{ℕ}
 use mathlib.Core.Bool.{Bool, true, false, not, _&&_, cond}
 use mathlib.Core.Option.{Option, none, some}
+use Rattle.logic.specs.Refuse.{byRefusal}
 use Rattle.logic.specs.Search.{Triple, firstTriple}
-use Rattle.parts.specs.Refusal.{accepted, brokenState}
+use Rattle.parts.specs.Refusal.{accepted}
 use Rattle.parts.specs.Isr.{member}
 use Rattle.replica.specs.Log.{holdSameRecord}
 use Rattle.cluster.specs.declared.State.{State}
 use Rattle.cluster.specs.State.{replicaCount, replicaAt}
-use Rattle.cluster.specs.Rules.{rules}
+use Rattle.cluster.specs.Rules.{stateRefusal}
 use Rattle.cluster.specs.Actions.{replicaPresumesLeadership}
 use Rattle.questions.specs.declared.Property.{Property}
 use Rattle.questions.specs.declared.Property.the-variants.{WeakIsr, StrongIsr}
@@ -51,9 +52,13 @@ isrAnswerOf (some t) = isrAnswer accepted false (t .first) (t .second) (t .third
 unfoldable pub checkIsr : Property → State → IsrAnswer
 checkIsr property s = isrAnswerOf (smallestFailure property s)
 
--- what any state answers: "bad state 1", with zeros beside it
+-- refused: a number, with zeros beside it
+abbrev pub isrRefused : ℕ → IsrAnswer
+isrRefused number = isrAnswer number false 0 0 0
+
+-- what any state answers: "bad state 1"
 unfoldable pub askIsr : Property → State → IsrAnswer
-askIsr property s = cond (rules s) (checkIsr property s) (isrAnswer brokenState false 0 0 0)
+askIsr property s = byRefusal (stateRefusal s) isrRefused (checkIsr property s)
 
 -- WeakIsr: m is from r's own ISR
 abbrev pub weakIsr : State → IsrAnswer

@@ -3,15 +3,16 @@
 use Prim.Native.Nat.{ℕ, _<_, _^_}
 use mathlib.Core.Path.{_≡_, refl, sym, _∙_, ap, subst}
 use mathlib.Core.Bool.{Bool, true, false, not, cond}
+use mathlib.Core.List.{_∷_}
 use mathlib.Core.Logic.{_↔_}
 use mathlib.Core.Option.{Option, none, some}
 use native.Mathlib.Omega.{arith}
 use borrow.Author.Tests.{not-true, not-false}
 use Rattle.logic.specs.Tests.{and-left, and-right, and-true, true-false}
-use Rattle.logic.specs.Table.{cond-true, cond-false}
+use Rattle.logic.specs.Refuse.{by-accepted, by-refused, by-number, listed}
 use Rattle.logic.specs.Search.{Triple, triple, Before, firstTriple, first-triple-none, first-triple-some, first-triple-cong}
 use Rattle.parts.specs.declared.Leader.the-variants.{Broker}
-use Rattle.parts.specs.Refusal.{accepted, brokenState}
+use Rattle.parts.specs.Refusal.{accepted}
 use Rattle.parts.specs.Isr.{member}
 use Rattle.parts.specs.IsrLaws.{member-within}
 use Rattle.parts.specs.Leader.{names}
@@ -23,10 +24,10 @@ use Rattle.cluster.specs.declared.Limits.{Limits}
 use Rattle.cluster.specs.declared.Quorum.{Quorum}
 use Rattle.cluster.specs.declared.State.{State}
 use Rattle.cluster.specs.State.{replicaCount, replicaAt, Same}
-use Rattle.cluster.specs.Rules.{rules}
-use Rattle.cluster.specs.RuleLaws.{ranges-of}
+use Rattle.cluster.specs.Rules.{rules, stateRefusal, stateNumbers}
+use Rattle.cluster.specs.RuleLaws.{ranges-of, met-refusal, broken-refusal, state-listed}
 use Rattle.cluster.specs.Predicates.{Has, Rules, rules-iff}
-use Rattle.cluster.specs.Unused.{rules-same}
+use Rattle.cluster.specs.Unused.{rules-same, state-refusal-same}
 use Rattle.cluster.specs.Actions.{replicaPresumesLeadership}
 use Rattle.cluster.specs.ActLaws.{replica-five, hw-small}
 use Rattle.cluster.specs.Fresh.{freshState, fresh}
@@ -34,7 +35,7 @@ use Rattle.cluster.specs.FreshLaws.{fresh-replica, fresh-accepted, fresh-answer
 use Rattle.questions.specs.declared.Property.{Property}
 use Rattle.questions.specs.declared.Property.the-variants.{WeakIsr, StrongIsr}
 use Rattle.questions.specs.declared.IsrAnswer.{IsrAnswer}
-use Rattle.questions.specs.Isr.{isrAsked, isAsked, offsetsAsked, differAt, smallestFailure, isrAnswer, isrAnswerOf, checkIsr, askIsr, weakIsr, strongIsr}
+use Rattle.questions.specs.Isr.{isrAsked, isAsked, offsetsAsked, differAt, smallestFailure, isrAnswer, isrAnswerOf, checkIsr, isrRefused, askIsr, weakIsr, strongIsr}
 
 -- ---- the property
 -- the logs of r and m have offset x, and hold the same record there
@@ -155,11 +156,16 @@ module _ (property : Property) (s : State) (h : rules s ≡ true) where
   -- the inner form answers the same
   pub check-is-ask : checkIsr property s ≡ askIsr property s
   unfolding askIsr
-  check-is-ask = sym (cond-true (rules s) (checkIsr property s) (isrAnswer brokenState false 0 0 0) h)
+  check-is-ask = by-accepted (stateRefusal s) isrRefused (checkIsr property s) (met-refusal s h)
 
   pub isr-says : Says (askIsr property s)
   unfolding checkIsr
   isr-says = subst Says check-is-ask (says-by (smallestFailure property s) refl)
+
+isr-answer-number : (o : Option Triple) → isrAnswerOf o .refusal ≡ accepted
+unfolding isrAnswerOf
+isr-answer-number none = refl
+isr-answer-number (some t) = refl
 
 -- the two properties written out
 module _ (s : State) (h : rules s ≡ true) where
@@ -186,10 +192,20 @@ module _ (s : State) (h : rules s ≡ true) where
   unfolding isrAsked
   strong-holds = written-out StrongIsr
 
--- a state that breaks a rule: 1, and zeros beside it
-pub isr-broken : (property : Property) (s : State) → rules s ≡ false → askIsr property s ≡ isrAnswer brokenState false 0 0 0
+-- a state that breaks a rule: its number, and zeros beside it
+pub isr-broken : (property : Property) (s : State) → rules s ≡ false → askIsr property s ≡ isrRefused (stateRefusal s)
 unfolding askIsr
-isr-broken property s h = cond-false (rules s) (checkIsr property s) (isrAnswer brokenState false 0 0 0) h
+isr-broken property s h = sym (by-refused (stateRefusal s) isrRefused (checkIsr property s) (broken-refusal s h))
+
+-- the number is that of the state, so it is 0 or one of the state's
+pub isr-number : (property : Property) (s : State) → askIsr property s .refusal ≡ stateRefusal s
+unfolding askIsr checkIsr
+isr-number property s =
+    by-number (λ (a : IsrAnswer). a .refusal) (stateRefusal s) isrRefused (checkIsr property s) (λ k. refl)
+    (isr-answer-number (smallestFailure property s))
+
+pub isr-listed : (property : Property) (s : State) → listed (accepted ∷ stateNumbers) (askIsr property s .refusal) ≡ true
+isr-listed property s = ap (listed (accepted ∷ stateNumbers)) (isr-number property s) ∙ state-listed s
 
 -- ---- equal states get equal answers
 module _ (s t : State) (m : Same s t) where
@@ -229,7 +245,10 @@ isr-same property s t m = go (rules s) refl
         sym (check-is-ask property s e)
         ∙ ap isrAnswerOf (failure-same s t m property e)
         ∙ check-is-ask property t (sym (rules-same s t m) ∙ e)
-    go false e = isr-broken property s e ∙ sym (isr-broken property t (sym (rules-same s t m) ∙ e))
+    go false e =
+        isr-broken property s e
+        ∙ ap isrRefused (state-refusal-same s t m)
+        ∙ sym (isr-broken property t (sym (rules-same s t m) ∙ e))
 
 -- ---- the fresh state of an accepted configuration
 -- no replica presumes leadership

@@ -1,30 +1,33 @@
 -- What an offer says: the action offered is accepted and none smaller is, and 26 says that none at all is. Operands are any
 -- numbers here; accepted ones are bytes. Assumes nothing.
 use Prim.Native.Nat.{ℕ, _+_, _≤_, _<_}
-use mathlib.Core.Path.{_≡_, refl, sym, _∙_, ap, ap₂}
-use mathlib.Core.Bool.{Bool, true, false, not, cond}
+use mathlib.Core.Path.{_≡_, refl, sym, _∙_, ap, ap₂, subst}
+use mathlib.Core.Bool.{Bool, true, false}
+use mathlib.Core.List.{List, [], _∷_, _++_}
 use mathlib.Core.Logic.{_↔_}
 use mathlib.Core.Option.{Option, none, some}
 use native.Mathlib.Omega.{arith}
 use lib.Dec.{ltb}
-use borrow.Author.Tests.{ltb-true, ltb-false, eqb-true, eq-eqb, not-false}
-use Rattle.logic.specs.Tests.{every-at, true-false}
-use Rattle.logic.specs.Refuse.{refuse-no, refuse-zero}
+use borrow.Author.Tests.{ltb-true, ltb-false, eqb-true, eq-eqb}
+use Rattle.logic.specs.Tests.{every, every-at, true-false}
+use Rattle.logic.specs.Refuse.{refuse, refuse-zero, firstRefusal, first-yes, first-no, byRefusal, by-refused, listed, listed-within, listed-not}
 use Rattle.logic.specs.Search.{Triple, triple, Before, first-triple-none, first-triple-some}
-use Rattle.parts.specs.Refusal.{accepted, brokenState, unknownKind, noOffer}
+use Rattle.parts.specs.Refusal.{accepted, unknownKind, noOffer}
 use Rattle.cluster.specs.declared.State.{State}
 use Rattle.cluster.specs.declared.Action.{Action}
 use Rattle.cluster.specs.declared.Bounds.{Bounds}
 use Rattle.cluster.specs.State.{replicaCount, maxLeaderEpoch, Same, tidy}
-use Rattle.cluster.specs.Rules.{rules}
+use Rattle.cluster.specs.Rules.{rules, stateRefusal, stateNumbers}
+use Rattle.cluster.specs.RuleLaws.{met-refusal, broken-refusal, broken-listed}
 use Rattle.cluster.specs.Predicates.{rules-iff}
 use Rattle.cluster.specs.Equality.{same-iff-tidy}
-use Rattle.cluster.specs.Unused.{rules-same, rules-tidy}
-use Rattle.cluster.specs.Act.{kindOf, actionOf, uses, operandBound, operandBounds, operandTests, operandsFit, actionRefusal, refusal, act}
+use Rattle.cluster.specs.Unused.{state-refusal-same, rules-tidy}
+use Rattle.cluster.specs.Act.{lastKind, kindOf, actionOf, uses, operandBound, operandBounds, operandTests, operandsFit, actionRefusal, act}
+use Rattle.cluster.specs.ActLaws.{refusal-of-met, accepts}
 use Rattle.cluster.specs.Accepted.{operand-iff, action-accepted}
 use Rattle.actions.specs.Answers.{act-number}
 use Rattle.questions.specs.declared.OfferAnswer.{OfferAnswer}
-use Rattle.questions.specs.Offer.{epochBound, isAccepted, smallestAccepted, offerAnswer, offerOf, findOffer, offerBy, offer}
+use Rattle.questions.specs.Offer.{epochBound, isAccepted, smallestAccepted, offerAnswer, offerRefused, offerOf, findOffer, offerRefusal, offer}
 
 -- the action of a kind with these operands is accepted
 abbrev pub Accepted : State → ℕ → Triple → Type 0
@@ -56,10 +59,9 @@ module _ (s : State) (kind : ℕ) (met : rules s ≡ true) where
 
   -- it is accepted exactly where its refusal on the tidy state is 0
   accepted-iff : (t : Triple) → Accepted s kind t ↔ actionRefusal (tidy s) (actionBy t) ≡ accepted
-  unfolding refusal
   accepted-iff t = (
-    (λ a. refuse-zero _ _ _ (sym (act-number s (actionBy t)) ∙ a) .1),
-    (λ r. act-number s (actionBy t) ∙ sym (refuse-no _ _ _ (ap not met)) ∙ r),
+    (λ a. accepts s (actionBy t) a .unrefused),
+    (λ r. act-number s (actionBy t) ∙ sym (refusal-of-met s (actionBy t) met) ∙ r),
   )
 
   -- the operands of an accepted action are below their bounds
@@ -114,38 +116,54 @@ both-fail : {A B : Type 0} → (A → ⊥) → (B → ⊥) → A ↔ B
 both-fail f g = ((λ a. absurd (f a)), (λ b. absurd (g b)))
 
 -- ---- the offer
+-- the numbers that it may give beside 0: "1, then 2, then 26"
+abbrev pub offerNumbers : List ℕ
+offerNumbers = stateNumbers ++ unknownKind ∷ noOffer ∷ []
+
 module _ (s : State) (kind : ℕ) where
   -- its four cases, each with its number and what holds then
   pub data Case : OfferAnswer → Type 0 where
-    broken : rules s ≡ false → Case (offerAnswer brokenState 0 0 0)
-    unknown : rules s ≡ true → 8 < kind → Case (offerAnswer unknownKind 0 0 0)
-    nothing : rules s ≡ true → kind ≤ 8 → ((t : Triple) → Accepted s kind t → ⊥) → Case (offerAnswer noOffer 0 0 0)
-    found : rules s ≡ true → kind ≤ 8 → (t : Triple) → Offered s kind t → Case (offerAnswer accepted (t .first) (t .second) (t .third))
+    broken : rules s ≡ false → Case (offerRefused (stateRefusal s))
+    unknown : rules s ≡ true → lastKind < kind → Case (offerRefused unknownKind)
+    nothing : rules s ≡ true → kind ≤ lastKind → ((t : Triple) → Accepted s kind t → ⊥) → Case (offerRefused noOffer)
+    found : rules s ≡ true → kind ≤ lastKind → (t : Triple) → Offered s kind t → Case (offerAnswer accepted (t .first) (t .second) (t .third))
 
-  case-found : rules s ≡ true → kind ≤ 8 → (o : Option Triple)
+  case-found : rules s ≡ true → kind ≤ lastKind → (o : Option Triple)
       → smallestAccepted (tidy s) kind (operandBounds (tidy s .limits) (kindOf kind)) ≡ o → Case (offerOf o)
   unfolding offerOf
   case-found met l none e = nothing met l (none-accepted s kind met e)
   case-found met l (some t) e = found met l t (offered-by s kind met t e)
 
-  case-known : rules s ≡ true → (b : Bool) → ltb 8 kind ≡ b → Case (cond b (offerAnswer unknownKind 0 0 0) (findOffer (tidy s) kind))
-  unfolding findOffer
-  case-known met true e = unknown met (ltb-true 8 kind e)
-  case-known met false e = case-found met (ltb-false 8 kind e) _ refl
+  case-known : rules s ≡ true → (b : Bool) → ltb lastKind kind ≡ b
+      → Case (byRefusal (refuse b unknownKind accepted) offerRefused (findOffer (tidy s) kind))
+  unfolding findOffer refuse byRefusal
+  case-known met true e = unknown met (ltb-true lastKind kind e)
+  case-known met false e = case-found met (ltb-false lastKind kind e) _ refl
+
+  -- the answer of a state that meets the rules, and of one that does not
+  pub offer-met : rules s ≡ true → byRefusal (refuse (ltb lastKind kind) unknownKind accepted) offerRefused (findOffer (tidy s) kind) ≡ offer s kind
+  unfolding offer offerRefusal
+  offer-met h =
+      ap (λ (n : ℕ). byRefusal n offerRefused (findOffer (tidy s) kind)) (first-no (stateRefusal s) _ (met-refusal s h))
+
+  pub offer-unmet : rules s ≡ false → offerRefused (stateRefusal s) ≡ offer s kind
+  unfolding offer offerRefusal
+  offer-unmet h =
+      by-refused (stateRefusal s) offerRefused (findOffer (tidy s) kind) (broken-refusal s h)
+      ∙ ap (λ (n : ℕ). byRefusal n offerRefused (findOffer (tidy s) kind)) (first-yes (stateRefusal s) _ (broken-refusal s h))
 
   pub offer-case : Case (offer s kind)
-  unfolding offer
   offer-case = go (rules s) refl
     where
-      go : (b : Bool) → rules s ≡ b → Case (offerBy b (tidy s) kind)
-      go true e = case-known e (ltb 8 kind) refl
-      go false e = broken e
+      go : (b : Bool) → rules s ≡ b → Case (offer s kind)
+      go true e = subst Case (offer-met e) (case-known e (ltb lastKind kind) refl)
+      go false e = subst Case (offer-unmet e) (broken e)
 
   pub offer-accepted : offer s kind .refusal ≡ accepted → Offered s kind (triple (offer s kind .a) (offer s kind .b) (offer s kind .e))
   offer-accepted = go (offer s kind) offer-case
     where
       go : (o : OfferAnswer) → Case o → o .refusal ≡ accepted → Offered s kind (triple (o .a) (o .b) (o .e))
-      go o (broken r) h = absurd (omega arith)
+      go o (broken r) h = absurd (broken-refusal s r h)
       go o (unknown r l) h = absurd (omega arith)
       go o (nothing r l f) h = absurd (omega arith)
       go o (found r l t f) h = f
@@ -154,48 +172,58 @@ module _ (s : State) (kind : ℕ) where
   met-or-not h k = true-false (sym h ∙ k)
 
   -- ---- the refusals, each exactly where it belongs, over all operands; zeros beside them
-  pub offer-broken : offer s kind .refusal ≡ brokenState ↔ rules s ≡ false
+  pub offer-broken : listed stateNumbers (offer s kind .refusal) ≡ true ↔ rules s ≡ false
+  unfolding listed
   offer-broken = go (offer s kind) offer-case
     where
-      go : (o : OfferAnswer) → Case o → o .refusal ≡ brokenState ↔ rules s ≡ false
-      go o (broken r) = both-hold refl r
-      go o (unknown r l) = both-fail (omega arith) (met-or-not r)
-      go o (nothing r l f) = both-fail (omega arith) (met-or-not r)
-      go o (found r l t f) = both-fail (omega arith) (met-or-not r)
+      go : (o : OfferAnswer) → Case o → listed stateNumbers (o .refusal) ≡ true ↔ rules s ≡ false
+      go o (broken r) = both-hold (broken-listed s r) r
+      go o (unknown r l) = both-fail (λ e. true-false (sym e)) (met-or-not r)
+      go o (nothing r l f) = both-fail (λ e. true-false (sym e)) (met-or-not r)
+      go o (found r l t f) = both-fail (λ e. true-false (sym e)) (met-or-not r)
 
-  pub offer-unknown : offer s kind .refusal ≡ unknownKind ↔ (rules s ≡ true) × (8 < kind)
+  -- which is then the state's own number, and no other
+  pub offer-broken-is : rules s ≡ false → offer s kind ≡ offerRefused (stateRefusal s)
+  offer-broken-is h = sym (offer-unmet h)
+
+  not-of-state : (k : ℕ) → listed stateNumbers k ≡ false → rules s ≡ false → stateRefusal s ≡ k → ⊥
+  not-of-state k unlisted r = listed-not stateNumbers (stateRefusal s) k (broken-listed s r) unlisted
+
+  pub offer-unknown : offer s kind .refusal ≡ unknownKind ↔ (rules s ≡ true) × (lastKind < kind)
+  unfolding listed
   offer-unknown = go (offer s kind) offer-case
     where
-      go : (o : OfferAnswer) → Case o → o .refusal ≡ unknownKind ↔ (rules s ≡ true) × (8 < kind)
-      go o (broken r) = both-fail (omega arith) (λ h. met-or-not (h .0) r)
+      go : (o : OfferAnswer) → Case o → o .refusal ≡ unknownKind ↔ (rules s ≡ true) × (lastKind < kind)
+      go o (broken r) = both-fail (not-of-state unknownKind refl r) (λ h. met-or-not (h .0) r)
       go o (unknown r l) = both-hold refl (r, l)
       go o (nothing r l f) = both-fail (omega arith) (λ h. omega arith)
       go o (found r l t f) = both-fail (omega arith) (λ h. omega arith)
 
-  pub offer-none : offer s kind .refusal ≡ noOffer ↔ (rules s ≡ true) × (kind ≤ 8) × ((t : Triple) → Accepted s kind t → ⊥)
+  pub offer-none : offer s kind .refusal ≡ noOffer ↔ (rules s ≡ true) × (kind ≤ lastKind) × ((t : Triple) → Accepted s kind t → ⊥)
+  unfolding listed
   offer-none = go (offer s kind) offer-case
     where
-      go : (o : OfferAnswer) → Case o → o .refusal ≡ noOffer ↔ (rules s ≡ true) × (kind ≤ 8) × ((t : Triple) → Accepted s kind t → ⊥)
-      go o (broken r) = both-fail (omega arith) (λ h. met-or-not (h .0) r)
+      go : (o : OfferAnswer) → Case o → o .refusal ≡ noOffer ↔ (rules s ≡ true) × (kind ≤ lastKind) × ((t : Triple) → Accepted s kind t → ⊥)
+      go o (broken r) = both-fail (not-of-state noOffer refl r) (λ h. met-or-not (h .0) r)
       go o (unknown r l) = both-fail (omega arith) (λ h. omega arith)
       go o (nothing r l f) = both-hold refl (r, l, f)
       go o (found r l t f) = both-fail (omega arith) (λ h. h .2 t (f .itself))
 
-  pub offer-zeros : (offer s kind .refusal ≡ accepted → ⊥) → offer s kind ≡ offerAnswer (offer s kind .refusal) 0 0 0
+  pub offer-zeros : (offer s kind .refusal ≡ accepted → ⊥) → offer s kind ≡ offerRefused (offer s kind .refusal)
   offer-zeros = go (offer s kind) offer-case
     where
-      go : (o : OfferAnswer) → Case o → (o .refusal ≡ accepted → ⊥) → o ≡ offerAnswer (o .refusal) 0 0 0
+      go : (o : OfferAnswer) → Case o → (o .refusal ≡ accepted → ⊥) → o ≡ offerRefused (o .refusal)
       go o (broken r) h = refl
       go o (unknown r l) h = refl
       go o (nothing r l f) h = refl
       go o (found r l t f) h = absurd (h refl)
 
   -- an accepted action is of a known kind, on a state that meets the rules
-  accepted-met : (t : Triple) → Accepted s kind t → (rules s ≡ true) × (kind ≤ 8)
-  unfolding refusal actionRefusal
+  accepted-met : (t : Triple) → Accepted s kind t → (rules s ≡ true) × (kind ≤ lastKind)
+  unfolding actionRefusal
   accepted-met t a =
-      let p = refuse-zero _ _ _ (sym (act-number s (actionOf kind (t .first) (t .second) (t .third))) ∙ a) in
-      (not-false _ (p .0), ltb-false 8 kind (refuse-zero _ _ _ (p .1) .0))
+      let p = accepts s (actionOf kind (t .first) (t .second) (t .third)) a in
+      (p .met, ltb-false lastKind kind (refuse-zero _ _ _ (p .unrefused) .0))
 
   -- accepted operands are bytes, so "none at all" is "none over all bytes"
   pub accepted-bytes : (t : Triple) → Accepted s kind t → (t .first < 256) × (t .second < 256) × (t .third < 256)
@@ -211,7 +239,19 @@ module _ (s : State) (kind : ℕ) where
       go o (nothing r l f) = absurd (f t a)
       go o (found r l u f) = refl
 
+  pub offer-listed : listed (accepted ∷ offerNumbers) (offer s kind .refusal) ≡ true
+  unfolding listed every
+  offer-listed = go (offer s kind) offer-case
+    where
+      go : (o : OfferAnswer) → Case o → listed (accepted ∷ offerNumbers) (o .refusal) ≡ true
+      go o (broken r) = listed-within stateNumbers (accepted ∷ offerNumbers) (stateRefusal s) refl (broken-listed s r)
+      go o (unknown r l) = refl
+      go o (nothing r l f) = refl
+      go o (found r l t f) = refl
+
 -- ---- equal states get equal offers
 pub offer-same : (s t : State) (kind : ℕ) → Same s t → offer s kind ≡ offer t kind
-unfolding offer
-offer-same s t kind m = ap₂ (λ (b : Bool) (u : State). offerBy b u kind) (rules-same s t m) (same-iff-tidy s t .0 m)
+unfolding offer offerRefusal
+offer-same s t kind m =
+    ap₂ (λ (n : ℕ) (u : State). byRefusal (firstRefusal n (refuse (ltb lastKind kind) unknownKind accepted)) offerRefused (findOffer u kind))
+    (state-refusal-same s t m) (same-iff-tidy s t .0 m)

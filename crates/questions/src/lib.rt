@@ -11,6 +11,7 @@ ghost use Rattle.questions.specs.Isr.{isrAnswer, checkIsr, askIsr, weakI
 ghost use Rattle.questions.specs.Exposed.{exposed};
 ghost use Rattle.questions.specs.Offer.{offer};
 use cluster::Kind;
+use cluster::LAST_KIND;
 use cluster::State;
 use parts::refusal::ACCEPTED;
 use parts::refusal::UNKNOWN_KIND;
@@ -148,7 +149,7 @@ pub fn offer(s: State, kind: u8) -> OfferAnswer
     if broken != ACCEPTED {
         return search::refused(broken);
     }
-    if 8 < kind {
+    if LAST_KIND < kind {
         return search::refused(UNKNOWN_KIND);
     }
     let t = s.tidy();

@@ -3,7 +3,7 @@ ghost use mathlib.Core.Path.{_≡_};
 ghost use mathlib.Core.Bool.{true};
 ghost use Rattle.logic.specs.Search.{firstThird, firstSecond};
 ghost use Rattle.cluster.specs.Rules.{rules};
-ghost use Rattle.questions.specs.Offer.{epochBound, isAccepted, smallestAccepted, offerAnswer, offerOf};
+ghost use Rattle.questions.specs.Offer.{epochBound, isAccepted, smallestAccepted, offerRefused, offerOf};
 use crate::OfferAnswer;
 use cluster::Action;
 use cluster::Bounds;
@@ -13,7 +13,7 @@ use parts::refusal::NO_OFFER;
 
 // An answer that offers nothing.
 pub(crate) fn refused(refusal: u8) -> OfferAnswer
-    ensures { λ r. ⌜ r ≡ offerAnswer refusal 0 0 0 ⌝ }
+    ensures { λ r. ⌜ r ≡ offerRefused refusal ⌝ }
 {
     OfferAnswer {
         refusal: refusal,

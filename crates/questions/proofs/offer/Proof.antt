@@ -1,6 +1,7 @@
 use Prim.Native.Nat.{ℕ}
-use mathlib.Core.Bool.{not, true}
-use mathlib.Core.Path.{_∙_, _≡_, ap, sym}
+use mathlib.Core.Bool.{true}
+use mathlib.Core.Path.{_∙_, _≡_, refl, ap, sym}
+use native.Mathlib.Omega.{arith}
 use borrow.Author.Needs.{needs}
 use borrow.Author.Tests.{le-ltb, lt-ltb}
 use Rattle.cluster.specs.Act.{operandBounds}
@@ -11,8 +12,10 @@ use Rattle.cluster.specs.State.{tidy}
 use Rattle.cluster.specs.Unused.{rules-tidy}
 use Rattle.cluster.specs.declared.Bounds.{Bounds}
 use Rattle.cluster.specs.declared.State.{State}
-use Rattle.logic.specs.Table.{cond-false, cond-true}
-use Rattle.questions.specs.Offer.{findOffer, offer, offerAnswer, offerOf, smallestAccepted}
+use Rattle.logic.specs.Refuse.{refuse-yes, refuse-none, byRefusal, by-accepted, by-refused}
+use Rattle.parts.specs.Refusal.{accepted, unknownKind}
+use Rattle.questions.specs.Offer.{findOffer, offerRefused, offerOf, smallestAccepted}
+use Rattle.questions.specs.OfferTheorems.{offer-met, offer-unmet}
 use Rattle.questions.proofs.offer.Statement.{statement}
 use Rattle.questions.proofs.offer.Tie as tie
 
@@ -26,18 +29,22 @@ refused-requires : tie.Need-refused-requires
 refused-requires c κs = search needs
 
 returns : tie.Need-returns
-unfolding offer
 returns c =
     let state-refusal = c .before .before .state-refusal in
-    let p = refusal-broken (c .before .before .before .args .s) (λ e. c .before .if1 .taken (state-refusal .ensures ∙ e)) in
-    c .refused .ensures ∙ ap (λ (n : ℕ). offerAnswer n 0 0 0) (state-refusal .ensures ∙ p .1) ∙ sym (cond-true _ _ _ (ap not (p .0)))
+    c .refused .ensures
+    ∙ ap offerRefused (state-refusal .ensures)
+    ∙ offer-unmet (c .before .before .before .args .s) (c .before .before .before .args .kind) (refusal-broken _ (λ e. c .before .if1 .taken (state-refusal .ensures ∙ e)))
 
 refused-requires-2 : tie.Need-refused-requires-2
 refused-requires-2 c κs = search needs
 
 returns-2 : tie.Need-returns-2
-unfolding offer
-returns-2 c = c .refused2 .ensures ∙ sym (cond-true _ _ _ (lt-ltb _ _ (c .before .if2 .taken))) ∙ sym (cond-false _ _ _ (ap not (met (c .before .before))))
+returns-2 c =
+    let a = c .before .before .before .before .args in
+    c .refused2 .ensures
+    ∙ by-refused unknownKind offerRefused (findOffer (tidy (a .s)) (a .kind)) (λ e. omega arith)
+    ∙ ap (λ (n : ℕ). byRefusal n offerRefused (findOffer (tidy (a .s)) (a .kind))) (refuse-yes _ unknownKind accepted (lt-ltb _ _ (c .before .if2 .taken)))
+    ∙ offer-met (a .s) (a .kind) (met (c .before .before))
 
 tidy-requires : tie.Need-tidy-requires
 tidy-requires c κs = search needs
@@ -54,16 +61,17 @@ offer-within-requires : tie.Need-offer-within-requires
 offer-within-requires c κs = rw (c .before .before .before .tidy .ensures) (rules-tidy (c .before .before .before .before .before .before .before .args .s) ∙ met (c .before .before .before .before .before))
 
 returns-3 : tie.Need-returns-3
-unfolding offer findOffer
+unfolding findOffer
 returns-3 c =
-    let tidy = c .before .before .before .before .tidy in
-    let kind = c .before .before .before .before .before .before .before .before .args .kind in
-    let t = tidy .result in
+    let tidied = c .before .before .before .before .tidy in
+    let a = c .before .before .before .before .before .before .before .before .args in
+    let kind = a .kind in
+    let t = tidied .result in
     c .offer-within .ensures
     ∙ ap (λ (n : Bounds). offerOf (smallestAccepted t kind n)) (c .before .operand-bounds .ensures ∙ ap (operandBounds (t .limits)) (c .before .before .of .ensures))
-    ∙ ap (λ (u : State). findOffer u kind) (tidy .ensures)
-    ∙ sym (cond-false _ _ _ (le-ltb _ _ (c .before .before .before .before .before .if2 .left)))
-    ∙ sym (cond-false _ _ _ (ap not (met (c .before .before .before .before .before .before))))
+    ∙ ap (λ (u : State). findOffer u kind) (tidied .ensures)
+    ∙ by-accepted _ offerRefused (findOffer (tidy (a .s)) kind) (refuse-none _ unknownKind accepted (le-ltb _ _ (c .before .before .before .before .before .if2 .left)) refl)
+    ∙ offer-met (a .s) kind (met (c .before .before .before .before .before .before))
 
 pub offer-spec : {M : Type 1} → statement M
 offer-spec =
