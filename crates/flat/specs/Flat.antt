@@ -16,15 +16,13 @@ use Rattle.parts.specs.Mark.{byteAt}
 use Rattle.replica.specs.declared.Record.{Record}
 use Rattle.replica.specs.declared.Replica.{Replica}
 use Rattle.replica.specs.Replica.{replicaOf}
-use Rattle.cluster.specs.declared.Limits.{Limits}
+use Rattle.replica.specs.ReplicaBytes.{headWidth, recordWidth, recordBytesAt, replicaHeadBy, recordOf, endPlace}
 use Rattle.cluster.specs.declared.Quorum.{Quorum}
 use Rattle.cluster.specs.declared.Request.{Request}
 use Rattle.cluster.specs.declared.State.{State}
-use Rattle.cluster.specs.State.{replicaCount, logSize, maxRecords, maxLeaderEpoch, nextLeaderEpoch, nextRecordId, requestAt, replicaAt, stateOf}
-use Rattle.images.specs.Image.{recordBytesAt, replicaHeadBy}
-use Rattle.images.specs.Read.{recordOf}
+use Rattle.cluster.specs.State.{limitsAt, replicaCount, logSize, maxRecords, maxLeaderEpoch, nextLeaderEpoch, nextRecordId, requestAt, replicaAt, stateOf}
 
--- ---- how many bytes the state, its first part, a request, a replica, a replica without its log, and a record have
+-- ---- how many bytes the state, its first part, a request, and a replica have
 abbrev pub flatWidth : ℕ
 flatWidth = 226
 
@@ -37,15 +35,28 @@ requestWidth = 2
 abbrev pub replicaWidth : ℕ
 replicaWidth = 37
 
-abbrev pub headWidth : ℕ
-headWidth = 5
-
-abbrev pub recordWidth : ℕ
-recordWidth = 2
-
 -- where the replicas start: behind the first part and 16 requests
 abbrev pub replicasAt : ℕ
 replicasAt = 41
+
+-- where in the first part these stand
+abbrev pub limitsPlace : ℕ
+limitsPlace = 0
+
+abbrev pub nextEpochPlace : ℕ
+nextEpochPlace = 4
+
+abbrev pub nextIdPlace : ℕ
+nextIdPlace = 5
+
+abbrev pub quorumEpochPlace : ℕ
+quorumEpochPlace = 6
+
+abbrev pub quorumLeaderPlace : ℕ
+quorumLeaderPlace = 7
+
+abbrev pub quorumIsrPlace : ℕ
+quorumIsrPlace = 8
 
 -- ---- leaders
 -- "a leader is 0 for none and i + 1 for replica i". Replica 255 has no byte, and no state that is read or answered names it;
@@ -103,20 +114,16 @@ recordOfFlat bs x = recordOf (drop (headWidth + recordWidth * x) bs)
 
 abbrev pub replicaOfFlat : List ℕ → Replica
 replicaOfFlat bs =
-    replicaOf (byteAt bs 0) (epochOfByte (byteAt bs 1)) (leaderOfFlat (byteAt bs 2)) (byteAt bs 3) (byteAt bs 4)
+    replicaOf (byteAt bs 0) (epochOfByte (byteAt bs 1)) (leaderOfFlat (byteAt bs 2)) (byteAt bs 3) (byteAt bs endPlace)
     (table 16 (recordOfFlat bs))
 
-abbrev pub limitsOfFlat : List ℕ → Limits
-limitsOfFlat bs =
-    record {
-      «replica_count» = byteAt bs 0;
-      «log_size» = byteAt bs 1;
-      «max_records» = byteAt bs 2;
-      «max_leader_epoch» = byteAt bs 3;
-    }
-
 abbrev pub quorumOfFlat : List ℕ → Quorum
-quorumOfFlat bs = record { epoch = epochOfByte (byteAt bs 6); leader = leaderOfFlat (byteAt bs 7); isr = byteAt bs 8 }
+quorumOfFlat bs =
+    record {
+      epoch = epochOfByte (byteAt bs quorumEpochPlace);
+      leader = leaderOfFlat (byteAt bs quorumLeaderPlace);
+      isr = byteAt bs quorumIsrPlace;
+    }
 
 -- the request of epoch e, and the replica named i
 abbrev pub requestOfFlatAt : List ℕ → ℕ → Request
@@ -127,4 +134,4 @@ replicaOfFlatAt bs i = replicaOfFlat (drop (replicasAt + replicaWidth * i) bs)
 
 unfoldable pub stateOfFlat : List ℕ → State
 stateOfFlat bs =
-    stateOf (limitsOfFlat bs) (byteAt bs 4) (byteAt bs 5) (quorumOfFlat bs) (table 16 (requestOfFlatAt bs)) (table 5 (replicaOfFlatAt bs))
+    stateOf (limitsAt limitsPlace bs) (byteAt bs nextEpochPlace) (byteAt bs nextIdPlace) (quorumOfFlat bs) (table 16 (requestOfFlatAt bs)) (table 5 (replicaOfFlatAt bs))

@@ -1,20 +1,17 @@
 -- Laws of the flat form, for the functions that read and write it. Assumes nothing.
 use Prim.Native.Nat.{ℕ, zero, suc, _+_, _-_, _*_}
 use mathlib.Core.Path.{_≡_, refl, sym, _∙_, ap}
-use mathlib.Core.List.{List, [], _∷_}
+use mathlib.Core.List.{List}
 use native.Mathlib.Omega.{arith}
-use native.Mathlib.Numerals.{towards-suc}
-use lib.ListN.{length, drop, set, length-append}
+use lib.ListN.{length, drop, length-append}
 use lib.Seq.{drop-drop}
-use Rattle.logic.specs.Stores.{Stored}
 use Rattle.logic.specs.Concat.{concatBelow, concat-width}
 use Rattle.parts.specs.declared.Leader.the-variants.{Broker}
 use Rattle.replica.specs.declared.Replica.{Replica}
+use Rattle.replica.specs.ReplicaBytes.{headWidth, recordWidth, recordBytesAt, recordOf}
 use Rattle.cluster.specs.declared.State.{State}
 use Rattle.cluster.specs.State.{replicaAt}
-use Rattle.images.specs.Image.{recordBytesAt}
-use Rattle.images.specs.Read.{recordOf}
-use Rattle.flat.specs.Flat.{headWidth, recordWidth, leaderOfFlat, flatRequestAt, flatReplica, flatReplicaAt, recordOfFlat, flat}
+use Rattle.flat.specs.Flat.{leaderOfFlat, flatRequestAt, flatReplica, flatReplicaAt, recordOfFlat, flat}
 
 -- ---- reading
 pub leader-of-some : (b : ℕ) → (b ≡ 0 → ⊥) → Broker (b - 1) ≡ leaderOfFlat b
@@ -45,9 +42,3 @@ flat-width s =
     let k = replicas-width s in
     let m = length-append (concatBelow 16 (flatRequestAt s)) (concatBelow 5 (flatReplicaAt s)) in
     omega arith
-
--- ---- nine bytes stored one by one
-pub stored-9 : (l : List ℕ) (at a b c d e f g h i : ℕ)
-    → Stored l at (a ∷ b ∷ c ∷ d ∷ e ∷ f ∷ g ∷ h ∷ i ∷ [])
-    (set (set (set (set (set (set (set (set (set l at a) (at + 1) b) (at + 2) c) (at + 3) d) (at + 4) e) (at + 5) f) (at + 6) g) (at + 7) h) (at + 8) i) (at + 9)
-stored-9 l at a b c d e f g h i = record { place = refl; list = simp towards-suc }

@@ -5,23 +5,24 @@ use mathlib.Core.Path.{_≡_, refl, sym, _∙_, ap, ap₂}
 use mathlib.Core.Bool.{Bool, true, false, cond}
 use mathlib.Core.List.{List, [], _∷_, _++_, append-assoc, append-nil}
 use native.Mathlib.Omega.{arith}
-use native.Mathlib.Nat.{mul-comm}
+use native.Mathlib.Nat.{mul-comm, mul-le-mul-left}
 use native.Mathlib.Decide.{ℕ-discrete, decLt}
 use lib.Dec.{ltb}
 use lib.IntN.{ℤ, pos}
-use lib.Signed.{mag}
-use lib.ListN.{length, take, drop, length-drop, length-replicate, getD-replicate}
-use lib.Seq.{getD-drop, take-add, take-all, drop-at, drop-drop}
+use lib.ListN.{length, take, drop, getD, length-drop, length-replicate, getD-replicate}
+use lib.Seq.{take-add, take-all, drop-at, drop-drop}
 use borrow.Author.Tests.{lt-ltb, le-ltb}
 use Rattle.logic.specs.Table.{table, tableFrom, length-table, getD-table, ext-table, cond-true}
 use Rattle.logic.specs.Concat.{concatBelow, concat-width}
 use Rattle.parts.specs.declared.Leader.{Leader}
 use Rattle.parts.specs.declared.Leader.the-variants.{None, Broker}
 use Rattle.parts.specs.Mark.{byteAt}
-use Rattle.parts.specs.ByteLaws.{epoch-back, epoch-byte-back, last-small}
+use Rattle.parts.specs.ByteLaws.{SmallEpoch, SmallLeader, epoch-back, epoch-byte-back, last-small}
+use Rattle.parts.specs.Bytes.{Bytes, bytes-drop, front-bytes}
 use Rattle.replica.specs.declared.Record.{Record}
 use Rattle.replica.specs.declared.Replica.{Replica}
 use Rattle.replica.specs.Replica.{replicaOf, zeroRecord, noReplica, recordAt, tidyRecord, tidyReplica}
+use Rattle.replica.specs.ReplicaBytes.{headWidth, recordWidth, recordBytes, recordBytesAt, replicaHeadBy, recordOf}
 use Rattle.cluster.specs.declared.Quorum.{Quorum}
 use Rattle.cluster.specs.declared.Request.{Request}
 use Rattle.cluster.specs.declared.State.{State}
@@ -29,11 +30,8 @@ use Rattle.cluster.specs.State.{replicaCount, nextLeaderEpoch, nextRecordId, ze
 use Rattle.cluster.specs.Rules.{rules}
 use Rattle.cluster.specs.RuleLaws.{rules-bounded}
 use Rattle.cluster.specs.Predicates.{rules-iff}
-use Rattle.images.specs.Image.{recordBytes, recordBytesAt, replicaHeadBy}
-use Rattle.images.specs.Read.{recordOf}
-use Rattle.images.specs.PartLaws.{Bytes, front-bytes}
-use Rattle.images.specs.RoundTrip.{named-small, writable}
-use Rattle.flat.specs.Flat.{flatWidth, headerWidth, requestWidth, replicaWidth, headWidth, recordWidth, replicasAt, flatLeader, leaderOfFlat, flatRequest, flatRequestAt, flatReplica, flatReplicaAt, flatHeader, flat, requestOfFlat, recordOfFlat, replicaOfFlat, quorumOfFlat, requestOfFlatAt, replicaOfFlatAt, stateOfFlat}
+use Rattle.cluster.specs.StateBytes.{named-small, replica-small}
+use Rattle.flat.specs.Flat.{flatWidth, headerWidth, requestWidth, replicaWidth, replicasAt, flatLeader, leaderOfFlat, flatRequest, flatRequestAt, flatReplica, flatReplicaAt, flatHeader, flat, requestOfFlat, recordOfFlat, replicaOfFlat, quorumOfFlat, requestOfFlatAt, replicaOfFlatAt, stateOfFlat}
 use Rattle.flat.specs.FlatLaws.{replica-width, requests-width}
 
 -- ---- bytes, read and written again
@@ -41,9 +39,6 @@ leader-bytes : (b : ℕ) → b < 256 → flatLeader (leaderOfFlat b) ≡ b
 unfolding flatLeader leaderOfFlat
 leader-bytes zero h = refl
 leader-bytes (suc i) h = cond-true (ltb i 255) (i + 1) 0 (lt-ltb i 255 (omega arith)) ∙ omega arith
-
-bytes-drop : (k : ℕ) (bs : List ℕ) → Bytes bs → Bytes (drop k bs)
-bytes-drop k bs h = record { byte = λ i. rw (getD-drop k bs i 0) (h .byte (k + i)) }
 
 -- parts of w bytes one after the other
 parts-joined : (w n : ℕ) (f : ℕ → List ℕ) (bs : List ℕ) → ((i : ℕ) → i < n → f i ≡ take w (drop (w * i) bs)) → concatBelow n f ≡ take (w * n) bs
@@ -53,6 +48,10 @@ parts-joined w (suc n) f bs h =
     let e : w * suc n ≡ w * n + w = omega arith in
     rw e (ap₂ (λ (a b : List ℕ). a ++ b) (parts-joined w n f bs (λ i l. h i (omega arith))) (h n (omega arith)) ∙ sym (take-add (w * n) w bs))
 
+-- part i of n is among them
+part-within : (w n i : ℕ) → i < n → w * i + w ≤ w * n
+part-within w n i l = let e : w * suc i ≤ w * n = mul-le-mul-left w (omega arith) in omega arith
+
 request-bytes : (bs : List ℕ) → Bytes bs → 2 ≤ length bs → flatRequest (requestOfFlat bs) ≡ take 2 bs
 unfolding table tableFrom
 request-bytes bs b h = ap (λ (l : ℕ). l ∷ byteAt bs 1 ∷ []) (leader-bytes (byteAt bs 0) (b .byte 0)) ∙ front-bytes 2 bs h
@@ -61,15 +60,20 @@ record-bytes : (bs : List ℕ) → Bytes bs → 2 ≤ length bs → recordBytes 
 unfolding table tableFrom
 record-bytes bs b h = ap (λ (e : ℕ). byteAt bs 0 ∷ e ∷ []) (epoch-byte-back (byteAt bs 1) (b .byte 1)) ∙ front-bytes 2 bs h
 
-log-bytes : (bs : List ℕ) → Bytes bs → 37 ≤ length bs → concatBelow 16 (recordBytesAt (replicaOfFlat bs)) ≡ take 32 (drop headWidth bs)
-log-bytes bs b h = parts-joined recordWidth 16 (recordBytesAt (replicaOfFlat bs)) (drop headWidth bs) at
+-- n parts of w bytes from a place on, each read at its own: written again they are those bytes
+parts-again : {A : Type 0} (w n place : ℕ) (of : List ℕ → A) (bytes : A → List ℕ) (d : A)
+    → ((cs : List ℕ) → Bytes cs → w ≤ length cs → bytes (of cs) ≡ take w cs)
+    → (bs : List ℕ) → Bytes bs → place + w * n ≤ length bs
+    → concatBelow n (λ i. bytes (getD (table n (λ k. of (drop (place + w * k) bs))) i d)) ≡ take (w * n) (drop place bs)
+parts-again w n place of bytes d again bs b h = parts-joined w n _ (drop place bs) at
   where
-    at : (x : ℕ) → x < 16 → recordBytesAt (replicaOfFlat bs) x ≡ take 2 (drop (recordWidth * x) (drop headWidth bs))
-    at x l =
-        let k : 2 ≤ length (drop (headWidth + recordWidth * x) bs) = rw (length-drop (headWidth + recordWidth * x) bs) (omega arith) in
-        ap recordBytes (getD-table 16 (recordOfFlat bs) x zeroRecord l)
-        ∙ record-bytes (drop (headWidth + recordWidth * x) bs) (bytes-drop (headWidth + recordWidth * x) bs b) k
-        ∙ ap (take 2) (sym (drop-drop (recordWidth * x) headWidth bs))
+    at : (i : ℕ) → i < n → bytes (getD (table n (λ k. of (drop (place + w * k) bs))) i d) ≡ take w (drop (w * i) (drop place bs))
+    at i l =
+        let whole : w * i + w ≤ w * n = part-within w n i l in
+        let k : w ≤ length (drop (place + w * i) bs) = rw (length-drop (place + w * i) bs) (omega arith) in
+        ap bytes (getD-table n (λ k. of (drop (place + w * k) bs)) i d l)
+        ∙ again (drop (place + w * i) bs) (bytes-drop (place + w * i) bs b) k
+        ∙ ap (take w) (sym (drop-drop (w * i) place bs))
 
 replica-bytes : (bs : List ℕ) → Bytes bs → 37 ≤ length bs → flatReplica (replicaOfFlat bs) ≡ take 37 bs
 unfolding table tableFrom
@@ -77,29 +81,7 @@ replica-bytes bs b h =
     let head : replicaHeadBy (replicaOfFlat bs) (flatLeader (leaderOfFlat (byteAt bs 2))) ≡ take 5 bs =
     ap₂ (λ (e l : ℕ). byteAt bs 0 ∷ e ∷ l ∷ byteAt bs 3 ∷ byteAt bs 4 ∷ []) (epoch-byte-back (byteAt bs 1) (b .byte 1)) (leader-bytes (byteAt bs 2) (b .byte 2))
     ∙ front-bytes 5 bs (omega arith) in
-    ap₂ (λ (a c : List ℕ). a ++ c) head (log-bytes bs b h) ∙ sym (take-add 5 32 bs)
-
-requests-bytes : (bs : List ℕ) → Bytes bs → length bs ≡ flatWidth → concatBelow 16 (flatRequestAt (stateOfFlat bs)) ≡ take 32 (drop headerWidth bs)
-unfolding stateOfFlat
-requests-bytes bs b h = parts-joined requestWidth 16 (flatRequestAt (stateOfFlat bs)) (drop headerWidth bs) at
-  where
-    at : (e : ℕ) → e < 16 → flatRequestAt (stateOfFlat bs) e ≡ take 2 (drop (requestWidth * e) (drop headerWidth bs))
-    at e l =
-        let k : 2 ≤ length (drop (headerWidth + requestWidth * e) bs) = rw (length-drop (headerWidth + requestWidth * e) bs) (omega arith) in
-        ap flatRequest (getD-table 16 (requestOfFlatAt bs) e zeroRequest l)
-        ∙ request-bytes (drop (headerWidth + requestWidth * e) bs) (bytes-drop (headerWidth + requestWidth * e) bs b) k
-        ∙ ap (take 2) (sym (drop-drop (requestWidth * e) headerWidth bs))
-
-replicas-bytes : (bs : List ℕ) → Bytes bs → length bs ≡ flatWidth → concatBelow 5 (flatReplicaAt (stateOfFlat bs)) ≡ take 185 (drop replicasAt bs)
-unfolding stateOfFlat
-replicas-bytes bs b h = parts-joined replicaWidth 5 (flatReplicaAt (stateOfFlat bs)) (drop replicasAt bs) at
-  where
-    at : (i : ℕ) → i < 5 → flatReplicaAt (stateOfFlat bs) i ≡ take 37 (drop (replicaWidth * i) (drop replicasAt bs))
-    at i l =
-        let k : 37 ≤ length (drop (replicasAt + replicaWidth * i) bs) = rw (length-drop (replicasAt + replicaWidth * i) bs) (omega arith) in
-        ap flatReplica (getD-table 5 (replicaOfFlatAt bs) i noReplica l)
-        ∙ replica-bytes (drop (replicasAt + replicaWidth * i) bs) (bytes-drop (replicasAt + replicaWidth * i) bs b) k
-        ∙ ap (take 37) (sym (drop-drop (replicaWidth * i) replicasAt bs))
+    ap₂ (λ (a c : List ℕ). a ++ c) head (parts-again recordWidth 16 headWidth recordOf recordBytes zeroRecord record-bytes bs b h) ∙ sym (take-add 5 32 bs)
 
 -- "flat to State to flat gives the same bytes"
 pub bytes-back : (bs : List ℕ) → Bytes bs → length bs ≡ flatWidth → flat (stateOfFlat bs) ≡ bs
@@ -109,7 +91,9 @@ bytes-back bs b h =
     ap₂ (λ (e l : ℕ). byteAt bs 0 ∷ byteAt bs 1 ∷ byteAt bs 2 ∷ byteAt bs 3 ∷ byteAt bs 4 ∷ byteAt bs 5 ∷ e ∷ l ∷ byteAt bs 8 ∷ []) (epoch-byte-back (byteAt bs 6) (b .byte 6)) (leader-bytes (byteAt bs 7) (b .byte 7))
     ∙ front-bytes 9 bs (omega arith) in
     let rest : concatBelow 16 (flatRequestAt (stateOfFlat bs)) ++ concatBelow 5 (flatReplicaAt (stateOfFlat bs)) ≡ take 217 (drop 9 bs) =
-    ap₂ (λ (a c : List ℕ). a ++ c) (requests-bytes bs b h) (replicas-bytes bs b h ∙ ap (take 185) (sym (drop-drop 32 9 bs)))
+    ap₂ (λ (a c : List ℕ). a ++ c)
+    (parts-again requestWidth 16 headerWidth requestOfFlat flatRequest zeroRequest request-bytes bs b (omega arith))
+    (parts-again replicaWidth 5 replicasAt replicaOfFlat flatReplica noReplica replica-bytes bs b (omega arith) ∙ ap (take 185) (sym (drop-drop 32 9 bs)))
     ∙ sym (take-add 32 185 (drop 9 bs)) in
     ap₂ (λ (a c : List ℕ). a ++ c) header rest ∙ sym (take-add 9 217 bs) ∙ take-all 226 bs (omega arith)
 
@@ -118,14 +102,7 @@ pub bytes-one-to-one : (bs cs : List ℕ) → Bytes bs → Bytes cs → length b
 bytes-one-to-one bs cs b c h k e = sym (bytes-back bs b h) ∙ ap flat e ∙ bytes-back cs c k
 
 -- ---- a state, written and read again
--- what a byte can hold: epochs from -128 to 127, and leaders below 255
-abbrev pub SmallEpoch : ℤ → Type 0
-SmallEpoch z = mag z < 128
-
-abbrev pub SmallLeader : Leader → Type 0
-SmallLeader l = (b : ℕ) → l ≡ Broker b → b < 255
-
--- all that a state holds, unused room too, is so, and its arrays have their lengths
+-- all that a state holds, unused room too, fits in a byte, and its arrays have their lengths
 pub record Flattens (s : State) : Type 0 where
   pub requestsLength : length (s .requests) ≡ 16
   pub replicasLength : length (s .replicas) ≡ 5
@@ -165,46 +142,46 @@ request-back q more h = ap (λ (l : Leader). record { leader = l; isr = q .isr }
 record-back : (r : Record) (more : List ℕ) → SmallEpoch (r .epoch) → recordOf (recordBytes r ++ more) ≡ r
 record-back r more h = ap (λ (z : ℤ). record { id = r .id; epoch = z }) (epoch-back (r .epoch) h)
 
--- the record at offset x is read where it was written
-record-found : (p : Replica) (more : List ℕ) (x : ℕ) → x < 16 → SmallEpoch (recordAt p x .epoch) → recordOfFlat (flatReplica p ++ more) x ≡ recordAt p x
-record-found p more x l h =
-    let at = part-at 2 16 (recordBytesAt p) more (λ x l. refl) x l in
-    ap recordOf (sym (drop-drop (recordWidth * x) headWidth (flatReplica p ++ more)) ∙ at .1) ∙ record-back (recordAt p x) (at .0) h
+-- n parts of w bytes that are written from a place on, each of which is read back: read at their places they are the parts
+parts-found : {A : Type 0} (w n place : ℕ) (of : List ℕ → A) (bytes : A → List ℕ) (d : A) (l : List A) (bs rest : List ℕ)
+    → length l ≡ n → drop place bs ≡ concatBelow n (λ i. bytes (getD l i d)) ++ rest → ((i : ℕ) → i < n → length (bytes (getD l i d)) ≡ w)
+    → ((i : ℕ) → i < n → (more : List ℕ) → of (bytes (getD l i d) ++ more) ≡ getD l i d)
+    → table n (λ k. of (drop (place + w * k) bs)) ≡ l
+parts-found w n place of bytes d l bs rest length-is behind width back = sym (ext-table d n (λ k. of (drop (place + w * k) bs)) l length-is at)
+  where
+    at : (i : ℕ) → i < n → getD l i d ≡ of (drop (place + w * i) bs)
+    at i k =
+        let found = part-at w n (λ j. bytes (getD l j d)) rest width i k in
+        sym (ap of (sym (drop-drop (w * i) place bs) ∙ ap (drop (w * i)) behind ∙ found .1) ∙ back i k (found .0))
 
 replica-back : (p : Replica) (more : List ℕ) → length (p .log) ≡ 16 → SmallEpoch (p .epoch) → SmallLeader (p .leader)
     → ((x : ℕ) → x < 16 → SmallEpoch (recordAt p x .epoch)) → replicaOfFlat (flatReplica p ++ more) ≡ p
 replica-back p more n e l r =
     let log : table 16 (recordOfFlat (flatReplica p ++ more)) ≡ p .log =
-    sym (ext-table zeroRecord 16 (recordOfFlat (flatReplica p ++ more)) (p .log) n (λ x k. sym (record-found p more x k (r x k)))) in
+    parts-found recordWidth 16 headWidth recordOf recordBytes zeroRecord (p .log) (flatReplica p ++ more) more n refl (λ x k. refl)
+    (λ x k left. record-back (recordAt p x) left (r x k)) in
     ap (λ (z : ℤ). replicaOf (p .hw) z (leaderOfFlat (flatLeader (p .leader))) (p .isr) (p .end) (table 16 (recordOfFlat (flatReplica p ++ more)))) (epoch-back (p .epoch) e)
     ∙ ap (λ (k : Leader). replicaOf (p .hw) (p .epoch) k (p .isr) (p .end) (table 16 (recordOfFlat (flatReplica p ++ more)))) (leader-back (p .leader) l)
     ∙ ap (λ (k : List Record). replicaOf (p .hw) (p .epoch) (p .leader) (p .isr) (p .end) k) log
 
 requests-back : (s : State) → Flattens s → table 16 (requestOfFlatAt (flat s)) ≡ s .requests
 unfolding flat
-requests-back s f = sym (ext-table zeroRequest 16 (requestOfFlatAt (flat s)) (s .requests) (f .requestsLength) at)
-  where
-    at : (e : ℕ) → e < 16 → requestAt s e ≡ requestOfFlatAt (flat s) e
-    at e l =
-        let found = part-at 2 16 (flatRequestAt s) (concatBelow 5 (flatReplicaAt s)) (λ e l. refl) e l in
-        sym (ap requestOfFlat (sym (drop-drop (requestWidth * e) headerWidth (flat s)) ∙ found .1) ∙ request-back (requestAt s e) (found .0) (f .requestLeader e l))
+requests-back s f =
+    parts-found requestWidth 16 headerWidth requestOfFlat flatRequest zeroRequest (s .requests) (flat s) (concatBelow 5 (flatReplicaAt s))
+    (f .requestsLength) refl (λ e l. refl) (λ e l more. request-back (requestAt s e) more (f .requestLeader e l))
 
 replicas-back : (s : State) → Flattens s → table 5 (replicaOfFlatAt (flat s)) ≡ s .replicas
 unfolding flat
-replicas-back s f = sym (ext-table noReplica 5 (replicaOfFlatAt (flat s)) (s .replicas) (f .replicasLength) at)
+replicas-back s f =
+    parts-found replicaWidth 5 replicasAt replicaOfFlat flatReplica noReplica (s .replicas) (flat s) [] (f .replicasLength) behind
+    (λ i l. replica-width (replicaAt s i))
+    (λ i l more. replica-back (replicaAt s i) more (f .logLength i l) (f .epoch i l) (f .leader i l) (λ x k. f .recordEpoch i x l k))
   where
     behind : drop replicasAt (flat s) ≡ concatBelow 5 (flatReplicaAt s) ++ []
     behind =
         sym (drop-drop 32 headerWidth (flat s))
         ∙ drop-at (concatBelow 16 (flatRequestAt s)) (concatBelow 5 (flatReplicaAt s)) 32 (requests-width s)
         ∙ sym (append-nil (concatBelow 5 (flatReplicaAt s)))
-
-    at : (i : ℕ) → i < 5 → replicaAt s i ≡ replicaOfFlatAt (flat s) i
-    at i l =
-        let found = part-at 37 5 (flatReplicaAt s) [] (λ i l. replica-width (replicaAt s i)) i l in
-        sym
-        (ap replicaOfFlat (sym (drop-drop (replicaWidth * i) replicasAt (flat s)) ∙ ap (drop (replicaWidth * i)) behind ∙ found .1)
-        ∙ replica-back (replicaAt s i) (found .0) (f .logLength i l) (f .epoch i l) (f .leader i l) (λ x k. f .recordEpoch i x l k))
 
 -- the state comes back from its flat form
 pub state-back : (s : State) → Flattens s → stateOfFlat (flat s) ≡ s
@@ -228,7 +205,7 @@ unfolding tidyReplica
 tidy-replica-small s h i l =
     elim (decLt i (replicaCount (s .limits))) [
       | yes k ↦
-          let w = writable s h i k in
+          let w = replica-small s h i k in
           let p = replicaAt s i in
           rw (lt-ltb i (replicaCount (s .limits)) k) (
             w .epoch,

@@ -4,20 +4,25 @@ ghost use Prim.Native.Nat.{_+_, _≤_};
 ghost use lib.ListN.{length, drop};
 ghost use Rattle.logic.specs.Table.{table};
 ghost use Rattle.flat.specs.Flat.{flatWidth, requestWidth, replicaWidth, leaderOfFlat, requestOfFlat, recordOfFlat, replicaOfFlat, requestOfFlatAt, replicaOfFlatAt, stateOfFlat};
-use crate::HEAD_WIDTH;
 use crate::HEADER_WIDTH;
-use crate::RECORD_WIDTH;
+use crate::LIMITS_PLACE;
+use crate::NEXT_EPOCH_PLACE;
+use crate::NEXT_ID_PLACE;
+use crate::QUORUM_EPOCH_PLACE;
+use crate::QUORUM_ISR_PLACE;
+use crate::QUORUM_LEADER_PLACE;
 use crate::REPLICA_WIDTH;
 use crate::REPLICAS_AT;
 use crate::REQUEST_WIDTH;
-use cluster::Limits;
 use cluster::Quorum;
 use cluster::Request;
 use cluster::State;
-use images::read::record_of;
 use parts::Leader;
 use replica::Record;
 use replica::Replica;
+use replica::bytes::HEAD_WIDTH;
+use replica::bytes::RECORD_WIDTH;
+use replica::bytes::record_of;
 
 // A leader: 0 is none, and i + 1 is replica i.
 fn leader_of(b: u8) -> Leader
@@ -115,23 +120,18 @@ pub fn state_of(bytes: &[u8]) -> State
     requires { ⌜ flatWidth ≤ length (now bytes) ⌝ }
     ensures { λ r. ⌜ r ≡ stateOfFlat (now (bytes .entry)) ⌝ }
 {
-    let limits = Limits {
-        replica_count: bytes[0],
-        log_size: bytes[1],
-        max_records: bytes[2],
-        max_leader_epoch: bytes[3],
-    };
+    let limits = cluster::limits_at(bytes, LIMITS_PLACE);
     let quorum = Quorum {
-        epoch: parts::epoch_of_byte(bytes[6]),
-        leader: leader_of(bytes[7]),
-        isr: bytes[8],
+        epoch: parts::epoch_of_byte(bytes[QUORUM_EPOCH_PLACE]),
+        leader: leader_of(bytes[QUORUM_LEADER_PLACE]),
+        isr: bytes[QUORUM_ISR_PLACE],
     };
     let requests = requests_of(bytes);
     let replicas = replicas_of(bytes);
     State {
         limits: limits,
-        next_leader_epoch: bytes[4],
-        next_record_id: bytes[5],
+        next_leader_epoch: bytes[NEXT_EPOCH_PLACE],
+        next_record_id: bytes[NEXT_ID_PLACE],
         quorum: quorum,
         requests: requests,
         replicas: replicas,

@@ -5,14 +5,14 @@ ghost use Prim.Native.Nat.{_+_, _≤_};
 ghost use lib.ListN.{length};
 ghost use Rattle.logic.specs.Concat.{concatBelow};
 ghost use Rattle.logic.specs.Stores.{Stored};
-ghost use Rattle.flat.specs.Flat.{flatWidth, flatLeader, flatRequestAt, flatReplica, flatReplicaAt, flatHeader, flat};
-use crate::HEADER_WIDTH;
+ghost use Rattle.flat.specs.Flat.{flatWidth, flatLeader, flatRequest, flatRequestAt, flatReplica, flatReplicaAt, flatHeader, flat};
+use cluster::Request;
 use cluster::State;
-use images::write::put_head;
-use images::write::put_log;
-use images::write::put_pair;
 use parts::Leader;
+use parts::bytes::put_bytes;
 use replica::Replica;
+use replica::bytes::put_head;
+use replica::bytes::put_log;
 
 // A leader: none is 0, and replica i is i + 1.
 fn leader_byte(leader: Leader) -> u8
@@ -31,19 +31,29 @@ fn put_header(out: &mut [u8], at: usize, s: State) -> usize
 {
     let c = s.limits;
     let q = s.quorum;
-    let epoch = parts::epoch_byte(q.epoch);
     let l = q.leader;
-    let leader = leader_byte(l);
-    out[at] = c.replica_count;
-    out[at + 1] = c.log_size;
-    out[at + 2] = c.max_records;
-    out[at + 3] = c.max_leader_epoch;
-    out[at + 4] = s.next_leader_epoch;
-    out[at + 5] = s.next_record_id;
-    out[at + 6] = epoch;
-    out[at + 7] = leader;
-    out[at + 8] = q.isr;
-    at + HEADER_WIDTH
+    let header = [
+        c.replica_count,
+        c.log_size,
+        c.max_records,
+        c.max_leader_epoch,
+        s.next_leader_epoch,
+        s.next_record_id,
+        parts::epoch_byte(q.epoch),
+        leader_byte(l),
+        q.isr,
+    ];
+    put_bytes(&mut out[..], at, &header)
+}
+
+// A request: leader, ISR.
+fn put_request(out: &mut [u8], at: usize, q: Request) -> usize
+    requires { ⌜ at + length (flatRequest q) ≤ length (now out) ⌝ }
+    ensures { λ n. ⌜ Stored (now (out .entry)) at (flatRequest q) (now (out .exit)) n ⌝ }
+{
+    let l = q.leader;
+    let pair = [leader_byte(l), q.isr];
+    put_bytes(&mut out[..], at, &pair)
 }
 
 // The 16 requests, sent or not.
@@ -55,8 +65,7 @@ fn put_requests(out: &mut [u8], at: usize, s: State) -> usize
     let mut pos = at;
     while e < 16 {
         let q = s.requests[e];
-        let l = q.leader;
-        pos = put_pair(&mut out[..], pos, leader_byte(l), q.isr);
+        pos = put_request(&mut out[..], pos, q);
         e = e + 1;
     }
     pos

@@ -1,52 +1,49 @@
 -- The image of a state, and what writing it answers. "State image: mark 4B 53, then R, L, M, X, next epoch, next id, quorum
 -- leader, quorum ISR; per request leader, ISR; per replica hw, epoch, leader, ISR, end, then (id, epoch) per record. One byte
 -- each; an ISR has bit i for replica i; none and -1 are 255." Assumes nothing.
-use Prim.Native.Nat.{ℕ, zero, suc}
-use mathlib.Core.Bool.{not}
+use Prim.Native.Nat.{ℕ}
 use mathlib.Core.List.{List, [], _∷_, _++_}
 use lib.Dec.{ltb}
 use lib.ListN.{length, drop}
-use Rattle.logic.specs.Refuse.{refuse}
+use Rattle.logic.specs.Refuse.{refuse, firstRefusal, byRefusal}
 use Rattle.logic.specs.Concat.{concatBelow}
-use Rattle.parts.specs.Refusal.{accepted, brokenState, bufferShort}
-use Rattle.parts.specs.Epoch.{epochByte}
+use Rattle.parts.specs.Refusal.{accepted, bufferShort}
 use Rattle.parts.specs.Leader.{leaderByte}
 use Rattle.parts.specs.Mark.{markFirst}
-use Rattle.replica.specs.declared.Record.{Record}
 use Rattle.replica.specs.declared.Replica.{Replica}
-use Rattle.replica.specs.Replica.{recordAt}
+use Rattle.replica.specs.ReplicaBytes.{recordBytesAt, replicaHeadBy}
 use Rattle.cluster.specs.declared.Request.{Request}
 use Rattle.cluster.specs.declared.State.{State}
 use Rattle.cluster.specs.State.{replicaCount, logSize, maxRecords, maxLeaderEpoch, nextLeaderEpoch, nextRecordId, requestAt, replicaAt}
-use Rattle.cluster.specs.Rules.{rules}
+use Rattle.cluster.specs.Rules.{stateRefusal}
 use Rattle.images.specs.declared.Written.{Written}
 
 -- ---- the second byte of the mark, 4B 53
 abbrev pub markSecond : ℕ
 markSecond = 83
 
--- ---- how many bytes the first part, a request, a replica without its log, and a record have
+-- ---- how many bytes the first part and a request have
 abbrev pub headerWidth : ℕ
 headerWidth = 10
 
 abbrev pub requestWidth : ℕ
 requestWidth = 2
 
-abbrev pub replicaWidth : ℕ
-replicaWidth = 5
+-- ---- where in the first part these stand; R, L, M and X stand behind the mark
+abbrev pub nextEpochPlace : ℕ
+nextEpochPlace = 6
 
-abbrev pub recordWidth : ℕ
-recordWidth = 2
+abbrev pub nextIdPlace : ℕ
+nextIdPlace = 7
+
+abbrev pub quorumLeaderPlace : ℕ
+quorumLeaderPlace = 8
+
+abbrev pub quorumIsrPlace : ℕ
+quorumIsrPlace = 9
 
 -- ---- the parts
--- "(id, epoch) per record"
-abbrev pub recordBytes : Record → List ℕ
-recordBytes r = r .id ∷ epochByte (r .epoch) ∷ []
-
--- the records of a log, up to its end
-abbrev pub recordBytesAt : Replica → ℕ → List ℕ
-recordBytesAt p x = recordBytes (recordAt p x)
-
+-- "(id, epoch) per record": the records of a log, up to its end
 unfoldable pub logBytes : Replica → List ℕ
 logBytes p = concatBelow (p .end) (recordBytesAt p)
 
@@ -61,10 +58,7 @@ requestBytesAt s e = requestBytes (requestAt s e)
 unfoldable pub requestsBytes : State → List ℕ
 requestsBytes s = concatBelow (nextLeaderEpoch s) (requestBytesAt s)
 
--- "per replica hw, epoch, leader, ISR, end", with this byte for its leader; then its log
-abbrev pub replicaHeadBy : Replica → ℕ → List ℕ
-replicaHeadBy p leader = p .hw ∷ epochByte (p .epoch) ∷ leader ∷ p .isr ∷ p .end ∷ []
-
+-- "per replica hw, epoch, leader, ISR, end"; then its log
 abbrev pub replicaHead : Replica → List ℕ
 replicaHead p = replicaHeadBy p (leaderByte (p .leader))
 
@@ -100,20 +94,19 @@ image s = headerBytes s ++ (requestsBytes s ++ replicasBytes s)
 -- ---- writing into a lent buffer
 -- "Writing: bad state 1, then buffer shorter than the image 24"
 unfoldable pub writeRefusal : State → List ℕ → ℕ
-writeRefusal s buffer = refuse (not (rules s)) brokenState (refuse (ltb (length buffer) (length (image s))) bufferShort accepted)
+writeRefusal s buffer =
+    firstRefusal (stateRefusal s)
+    (refuse (ltb (length buffer) (length (image s))) bufferShort
+    accepted)
+
+-- an answer: a number and a length
+abbrev pub written : ℕ → ℕ → Written
+written number n = record { refusal = number; length = n }
 
 -- "It answers the image's length, 0 when refused."
-unfoldable pub writtenBy : ℕ → State → Written
-writtenBy zero s = record { refusal = accepted; length = length (image s) }
-writtenBy (suc n) s = record { refusal = suc n; length = 0 }
-
 unfoldable pub writeImage : State → List ℕ → Written
-writeImage s buffer = writtenBy (writeRefusal s buffer) s
+writeImage s buffer = byRefusal (writeRefusal s buffer) (λ n. written n 0) (written accepted (length (image s)))
 
 -- the buffer afterwards: the image at its front, and "bytes beyond the image stay"; "No refusal writes a lent buffer."
-unfoldable pub bufferBy : ℕ → State → List ℕ → List ℕ
-bufferBy zero s buffer = image s ++ drop (length (image s)) buffer
-bufferBy (suc n) s buffer = buffer
-
 unfoldable pub bufferAfter : State → List ℕ → List ℕ
-bufferAfter s buffer = bufferBy (writeRefusal s buffer) s buffer
+bufferAfter s buffer = byRefusal (writeRefusal s buffer) (λ n. buffer) (image s ++ drop (length (image s)) buffer)

@@ -6,18 +6,19 @@ use native.Mathlib.Omega.{arith}
 use lib.ListN.{length, length-append}
 use Rattle.logic.specs.Concat.{concatBelow, concat-none, concat-more, concat-width, concat-most}
 use Rattle.replica.specs.declared.Replica.{Replica}
+use Rattle.replica.specs.ReplicaBytes.{headWidth, recordWidth, recordBytesAt}
 use Rattle.cluster.specs.declared.State.{State}
 use Rattle.cluster.specs.State.{replicaCount, nextLeaderEpoch, replicaAt}
 use Rattle.cluster.specs.Rules.{rules, LogsBounded}
 use Rattle.cluster.specs.RuleLaws.{rules-bounded, rules-logs-bounded}
-use Rattle.images.specs.Image.{recordBytesAt, logBytes, requestBytesAt, requestsBytes, replicaBytes, replicaBytesAt, replicasBytes, image, headerWidth, requestWidth, replicaWidth, recordWidth}
+use Rattle.images.specs.Image.{logBytes, requestBytesAt, requestsBytes, replicaBytes, replicaBytesAt, replicasBytes, image, headerWidth, requestWidth}
 
 -- ---- lengths
 log-length : (p : Replica) → length (logBytes p) ≡ p .end * recordWidth
 unfolding logBytes
 log-length p = concat-width recordWidth (p .end) (recordBytesAt p) (λ x l. refl)
 
-pub replica-length : (p : Replica) → length (replicaBytes p) ≡ replicaWidth + recordWidth * p .end
+pub replica-length : (p : Replica) → length (replicaBytes p) ≡ headWidth + recordWidth * p .end
 unfolding replicaBytes
 replica-length p = let e = log-length p in omega arith
 
@@ -34,7 +35,7 @@ pub replicas-start : (s : State) → 0 ≡ length (concatBelow 0 (replicaBytesAt
 replicas-start s = ap length (sym (concat-none (replicaBytesAt s)))
 
 pub replicas-more : (s : State) (i sum : ℕ) → sum ≡ length (concatBelow i (replicaBytesAt s))
-    → sum + replicaWidth + recordWidth * replicaAt s i .end ≡ length (concatBelow (i + 1) (replicaBytesAt s))
+    → sum + headWidth + recordWidth * replicaAt s i .end ≡ length (concatBelow (i + 1) (replicaBytesAt s))
 replicas-more s i sum h =
     let e = replica-length (replicaAt s i) in
     let k = length-append (concatBelow i (replicaBytesAt s)) (replicaBytesAt s i) in

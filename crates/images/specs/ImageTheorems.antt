@@ -6,27 +6,29 @@ use mathlib.Core.Bool.{Bool, true, false, cond}
 use mathlib.Core.List.{List, [], _∷_, _++_}
 use mathlib.Core.Logic.{_↔_}
 use native.Mathlib.Omega.{arith}
-use native.Mathlib.Decide.{decLt}
+use native.Mathlib.Decide.{ℕ-discrete, decLt}
 use lib.ListN.{length, take, drop}
 use lib.Seq.{take-append-seam}
+use Rattle.logic.specs.Refuse.{by-accepted, by-refused, by-number, by-first, by-other, listed, listed-refuse, listed-first}
 use Rattle.logic.specs.Concat.{concatBelow, concat-cong}
-use Rattle.parts.specs.Refusal.{accepted, brokenState}
+use Rattle.parts.specs.Refusal.{accepted, wrongMark, tooShort, badConfiguration, leftOver}
+use Rattle.parts.specs.Bytes.{Bytes}
 use Rattle.replica.specs.declared.Replica.{Replica}
 use Rattle.replica.specs.Replica.{SameReplica}
+use Rattle.replica.specs.ReplicaBytes.{recordBytes, recordBytesAt}
 use Rattle.cluster.specs.declared.Limits.{Limits}
 use Rattle.cluster.specs.declared.State.{State}
 use Rattle.cluster.specs.declared.Outcome.{Outcome}
 use Rattle.cluster.specs.State.{replicaCount, nextLeaderEpoch, replicaAt, Same, tidy, zeroState}
-use Rattle.cluster.specs.Rules.{rules}
+use Rattle.cluster.specs.Rules.{rules, brokenRule, ruleRefusal, stateRefusal, stateNumbers}
 use Rattle.cluster.specs.Equality.{same-sym, tidy-same, same-iff-tidy}
-use Rattle.cluster.specs.Unused.{rules-same}
-use Rattle.cluster.specs.Fresh.{answer}
+use Rattle.cluster.specs.Unused.{rules-same, state-refusal-same}
+use Rattle.cluster.specs.Outcome.{answer, withZeros}
 use Rattle.cluster.specs.RuleLaws.{rules-bounded, rules-logs-bounded}
-use Rattle.images.specs.Image.{requestBytes, requestBytesAt, requestsBytes, recordBytes, recordBytesAt, logBytes, replicaHead, replicaBytes, replicaBytesAt, replicasBytes, headerBytes, image, writeImage, bufferAfter, headerWidth}
+use Rattle.images.specs.Image.{requestBytes, requestBytesAt, requestsBytes, logBytes, replicaHead, replicaBytes, replicaBytesAt, replicasBytes, headerBytes, image, writeImage, bufferAfter, headerWidth}
 use Rattle.images.specs.declared.Written.{Written}
 use Rattle.images.specs.WriteLaws.{Writes, writes-broken, writes-short, writes-all}
-use Rattle.images.specs.Read.{Parsed, missing, endAbove, parsed, finished, readBody, readBy, readImage, headerRefusal, andThen, readRequests, readReplicas, headerState, refused}
-use Rattle.images.specs.PartLaws.{Bytes}
+use Rattle.images.specs.Read.{Parsed, missing, endAbove, parsed, finished, readBody, readImage, headerRefusal, andThen, readRequests, readReplicas, headerState, refusalOf}
 use Rattle.images.specs.RoundTrip.{read-back, read-is-image, read-meets-rules}
 
 -- ---- equal states have one image
@@ -93,7 +95,7 @@ write-same s t buffer m = go (rules s) refl
     alike a after p q = (sym (p .0) ∙ q .0, sym (p .1) ∙ q .1)
 
     go : (b : Bool) → rules s ≡ b → (writeImage s buffer ≡ writeImage t buffer) × (bufferAfter s buffer ≡ bufferAfter t buffer)
-    go false h = alike _ _ (writes-broken s buffer h) (writes-broken t buffer (sym (rules-same s t m) ∙ h))
+    go false h = alike _ _ (writes-broken s buffer h) (rw (state-refusal-same s t m) (writes-broken t buffer (sym (rules-same s t m) ∙ h)))
     go true h =
         let e : image s ≡ image t = image-same s t h m in
         let k : rules t ≡ true = sym (rules-same s t m) ∙ h in
@@ -117,16 +119,45 @@ unfolding finished
 finished-zero missing h = refl
 finished-zero endAbove h = refl
 finished-zero (parsed s (b ∷ bs)) h = refl
-finished-zero (parsed s []) h = go (rules s) refl
-  where
-    go : (b : Bool) → rules s ≡ b → cond b (answer accepted s) (refused brokenState) .state ≡ zeroState
-    go true e = absurd (h (ap (λ (b : Bool). cond b (answer accepted s) (refused brokenState) .refusal) e))
-    go false e = refl
+finished-zero (parsed s []) h = ap (λ (o : Outcome). o .state) (by-other (λ (o : Outcome). o .refusal) (stateRefusal s) withZeros (answer accepted s) refl h)
 
 pub read-refused-zero : (bs : List ℕ) → (readImage bs .refusal ≡ accepted → ⊥) → readImage bs .state ≡ zeroState
-unfolding readImage readBody readBy
-read-refused-zero bs h = go (headerRefusal bs) refl
-  where
-    go : (n : ℕ) → headerRefusal bs ≡ n → readBy n bs .state ≡ zeroState
-    go zero e = finished-zero (andThen (readRequests (headerState bs) (drop headerWidth bs)) readReplicas) (λ z. h (ap (λ (n : ℕ). readBy n bs .refusal) e ∙ z))
-    go (suc n) e = refl
+unfolding readImage readBody
+read-refused-zero bs h =
+    elim (ℕ-discrete (headerRefusal bs) accepted) [
+      | yes q ↦
+          let e = by-accepted (headerRefusal bs) withZeros (readBody bs) q in
+          ap (λ (o : Outcome). o .state) (sym e)
+          ∙ finished-zero (andThen (readRequests (headerState bs) (drop headerWidth bs)) readReplicas) (λ z. h (ap (λ (o : Outcome). o .refusal) (sym e) ∙ z))
+      | no q ↦ ap (λ (o : Outcome). o .state) (sym (by-refused (headerRefusal bs) withZeros (readBody bs) q))
+    ]
+
+-- ---- the numbers that reading may give beside 0
+abbrev pub readNumbers : List ℕ
+readNumbers = stateNumbers ++ wrongMark ∷ tooShort ∷ badConfiguration ∷ leftOver ∷ []
+
+-- one rule's number is one of the state's
+rule-listed : (k : ℕ) → listed (accepted ∷ readNumbers) (ruleRefusal k) ≡ true
+unfolding ruleRefusal listed
+rule-listed zero = refl
+rule-listed (suc k) = refl
+
+finished-listed : (m : Parsed State) → listed (accepted ∷ readNumbers) (finished m .refusal) ≡ true
+unfolding finished refusalOf stateRefusal listed
+finished-listed missing = refl
+finished-listed endAbove = rule-listed 2
+finished-listed (parsed s (b ∷ bs)) = refl
+finished-listed (parsed s []) =
+    ap (listed (accepted ∷ readNumbers)) (by-number (λ (o : Outcome). o .refusal) (stateRefusal s) withZeros (answer accepted s) (λ k. refl) refl)
+    ∙ rule-listed (brokenRule s)
+
+pub read-listed : (bs : List ℕ) → listed (accepted ∷ readNumbers) (readImage bs .refusal) ≡ true
+unfolding readImage readBody headerRefusal listed
+read-listed bs =
+    ap (listed (accepted ∷ readNumbers)) (sym (by-first (λ (o : Outcome). o .refusal) (headerRefusal bs) withZeros (readBody bs) (λ k. refl)))
+    ∙ listed-first (accepted ∷ readNumbers) (headerRefusal bs) (readBody bs .refusal)
+    (listed-refuse (accepted ∷ readNumbers) _ tooShort _ refl
+    (listed-refuse (accepted ∷ readNumbers) _ wrongMark _ refl
+    (listed-refuse (accepted ∷ readNumbers) _ badConfiguration _ refl
+    (listed-refuse (accepted ∷ readNumbers) _ (ruleRefusal 1) _ (rule-listed 1) refl))))
+    (finished-listed (andThen (readRequests (headerState bs) (drop headerWidth bs)) readReplicas))

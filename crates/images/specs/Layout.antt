@@ -3,16 +3,18 @@
 use Prim.Native.Nat.{ℕ, zero, suc, _+_, _*_}
 use mathlib.Core.List.{List, [], _∷_}
 use lib.ListN.{drop, set, replicate}
+use Rattle.logic.specs.Refuse.{firstRefusal}
 use Rattle.parts.specs.Refusal.{accepted, leftOver}
 use Rattle.parts.specs.Mark.{byteAt}
 use Rattle.replica.specs.declared.Record.{Record}
 use Rattle.replica.specs.declared.Replica.{Replica}
 use Rattle.replica.specs.Replica.{zeroRecord, zeroReplica, withLog}
+use Rattle.replica.specs.ReplicaBytes.{headWidth, recordWidth, recordOf, endPlace}
 use Rattle.cluster.specs.declared.Request.{Request}
 use Rattle.cluster.specs.declared.State.{State}
 use Rattle.cluster.specs.State.{limitsOf, replicaCount, logSize, zeroRequest}
-use Rattle.images.specs.Image.{headerWidth, requestWidth, replicaWidth, recordWidth}
-use Rattle.images.specs.Read.{Parsed, missing, endAbove, parsed, refusalOf, andThen, fill, recordOf, requestOf, replicaOfHead, readReplica, readRequests, readReplicas, headerState, headerRefusal}
+use Rattle.images.specs.Image.{headerWidth, requestWidth, nextEpochPlace}
+use Rattle.images.specs.Read.{Parsed, missing, endAbove, parsed, refusalOf, andThen, fill, requestOf, replicaOfHead, readReplica, readRequests, readReplicas, headerState, headerRefusal}
 
 -- ---- the first step: whether the parts are there
 -- "a missing part 21 and an end above L 1 as met; bytes left over 23"
@@ -31,12 +33,8 @@ abbrev pub bodyOf : List ℕ → Parsed State
 bodyOf bs = andThen (readRequests (headerState bs) (drop headerWidth bs)) readReplicas
 
 -- the refusal by the first ten bytes, and then by the parts behind them
-unfoldable pub layoutBy : ℕ → List ℕ → ℕ
-layoutBy zero bs = wholeRefusal (bodyOf bs)
-layoutBy (suc n) bs = suc n
-
 unfoldable pub layoutRefusal : List ℕ → ℕ
-layoutRefusal bs = layoutBy (headerRefusal bs) bs
+layoutRefusal bs = firstRefusal (headerRefusal bs) (wholeRefusal (bodyOf bs))
 
 -- ---- the second step: what the parts say
 -- part x of parts of w bytes
@@ -57,12 +55,12 @@ requestsOf n bs = storedBelow n (partAt requestWidth requestOf bs) (replicate 16
 
 -- a replica has as many bytes as its end says
 abbrev pub replicaLength : List ℕ → ℕ
-replicaLength bs = replicaWidth + recordWidth * byteAt bs 4
+replicaLength bs = headWidth + recordWidth * byteAt bs endPlace
 
 -- what it says, with its log
 abbrev pub replicaWithLog : List ℕ → Replica
-replicaWithLog bs = withLog (replicaOfHead bs) (recordsOf (byteAt bs 4) (drop replicaWidth bs))
+replicaWithLog bs = withLog (replicaOfHead bs) (recordsOf (byteAt bs endPlace) (drop headWidth bs))
 
 -- where the replicas start
 abbrev pub replicasPlace : List ℕ → ℕ
-replicasPlace bs = headerWidth + requestWidth * byteAt bs 6
+replicasPlace bs = headerWidth + requestWidth * byteAt bs nextEpochPlace

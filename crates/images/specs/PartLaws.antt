@@ -1,54 +1,20 @@
 -- Parts one after the other, there and back: what is written of each is read back into the array, and what is read is what is
 -- written of what was read. One induction each way, for records, requests and replicas alike. Assumes nothing.
-use Prim.Native.Nat.{ℕ, zero, suc, _+_, _≤_, _<_}
+use Prim.Native.Nat.{ℕ, zero, suc, _≤_, _<_}
 use mathlib.Core.Path.{_≡_, refl, sym, _∙_, ap}
 use mathlib.Core.Bool.{Bool, true, false, cond}
-use mathlib.Core.List.{List, [], _∷_, _++_, append-assoc}
+use mathlib.Core.List.{List, _++_, append-assoc}
 use native.Mathlib.Numerals.{add-one}
 use native.Mathlib.Omega.{arith}
 use lib.Dec.{leb, ltb}
-use lib.ListN.{length, take, drop, getD, set, replicate, length-set, length-replicate, getD-replicate, take-append-drop}
-use lib.Seq.{length-take-le, getD-take, getD-append-add, getD-set-same, getD-set-other}
+use lib.ListN.{length, drop, getD, set, replicate, length-set, length-replicate, getD-replicate}
+use lib.Seq.{getD-set-same, getD-set-other}
 use borrow.Author.Tests.{leb-true, le-ltb}
 use Rattle.logic.specs.Table.{table, ext-table, cond-false, splice, splice-turn}
 use Rattle.logic.specs.Concat.{concatBelow, concat-cong}
-use Rattle.parts.specs.Mark.{byteAt}
+use Rattle.parts.specs.Bytes.{Bytes, bytes-behind}
 use Rattle.images.specs.Read.{Parsed, missing, parsed, andThen, part, fill}
 use Rattle.images.specs.ReadLaws.{then-parsed, then-from, parsed-value, parsed-rest}
-
--- every number of the list is a byte; those of a `&[u8]` are (proofs/read_image/Proof.antt)
-pub record Bytes (bs : List ℕ) : Type 0 where
-  pub byte : (i : ℕ) → byteAt bs i < 256
-
-pub bytes-behind : (vs bs : List ℕ) → Bytes (vs ++ bs) → Bytes bs
-bytes-behind vs bs h = record { byte = λ i. rw (getD-append-add vs bs i 0) at (h .byte (length vs + i)) }
-
-pub bytes-none : Bytes []
-bytes-none = record { byte = λ i. omega arith }
-
-pub bytes-more : (b : ℕ) (bs : List ℕ) → b < 256 → Bytes bs → Bytes (b ∷ bs)
-bytes-more b bs h k = record { byte = at }
-  where
-    at : (i : ℕ) → byteAt (b ∷ bs) i < 256
-    at zero = h
-    at (suc i) = k .byte i
-
-pub bytes-append : (vs bs : List ℕ) → Bytes vs → Bytes bs → Bytes (vs ++ bs)
-bytes-append [] bs h k = k
-bytes-append (v ∷ vs) bs h k = bytes-more v (vs ++ bs) (h .byte 0) (bytes-append vs bs (bytes-behind (v ∷ []) vs h) k)
-
-pub bytes-concat : (n : ℕ) (f : ℕ → List ℕ) → ((i : ℕ) → i < n → Bytes (f i)) → Bytes (concatBelow n f)
-unfolding concatBelow
-bytes-concat zero f h = bytes-none
-bytes-concat (suc n) f h = bytes-append (concatBelow n f) (f n) (bytes-concat n f (λ i l. h i (omega arith))) (h n (omega arith))
-
--- the first n bytes by number
-pub front-bytes : (n : ℕ) (bs : List ℕ) → n ≤ length bs → table n (byteAt bs) ≡ take n bs
-front-bytes n bs h = sym (ext-table 0 n (byteAt bs) (take n bs) (length-take-le n bs h) (λ i l. getD-take n bs i 0 l))
-
--- the first n bytes, and those behind them
-pub front : (n : ℕ) (bs : List ℕ) → n ≤ length bs → bs ≡ table n (byteAt bs) ++ drop n bs
-front n bs h = sym (take-append-drop n bs) ∙ ap (λ (l : List ℕ). l ++ drop n bs) (sym (front-bytes n bs h))
 
 -- ---- a part of n bytes
 module _ {A : Type 0} (n : ℕ) (value : List ℕ → A) where

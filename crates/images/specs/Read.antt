@@ -6,21 +6,22 @@ use mathlib.Core.Bool.{not, cond}
 use mathlib.Core.List.{List, [], _∷_}
 use lib.Dec.{ltb, leb}
 use lib.ListN.{length, drop, set, replicate}
-use Rattle.logic.specs.Refuse.{refuse}
-use Rattle.parts.specs.Refusal.{accepted, brokenState, wrongMark, tooShort, badConfiguration, leftOver}
+use Rattle.logic.specs.Refuse.{refuse, byRefusal}
+use Rattle.parts.specs.Refusal.{accepted, wrongMark, tooShort, badConfiguration, leftOver}
 use Rattle.parts.specs.Epoch.{epochOfByte, lastEpoch}
 use Rattle.parts.specs.Leader.{leaderOfByte}
 use Rattle.parts.specs.Mark.{byteAt, marked}
 use Rattle.replica.specs.declared.Record.{Record}
 use Rattle.replica.specs.declared.Replica.{Replica}
 use Rattle.replica.specs.Replica.{replicaOf, zeroRecord, zeroReplica, withLog}
+use Rattle.replica.specs.ReplicaBytes.{headWidth, recordWidth, recordOf}
 use Rattle.cluster.specs.declared.Request.{Request}
 use Rattle.cluster.specs.declared.State.{State}
 use Rattle.cluster.specs.declared.Outcome.{Outcome}
-use Rattle.cluster.specs.State.{limitsOf, replicaCount, logSize, nextLeaderEpoch, zeroRequest, stateOf, withRequests, withReplicas, zeroState}
-use Rattle.cluster.specs.Rules.{inRange, rule1, rules}
-use Rattle.cluster.specs.Fresh.{answer}
-use Rattle.images.specs.Image.{markSecond, headerWidth, requestWidth, replicaWidth, recordWidth}
+use Rattle.cluster.specs.State.{limitsOf, replicaCount, logSize, nextLeaderEpoch, zeroRequest, stateOf, withRequests, withReplicas}
+use Rattle.cluster.specs.Outcome.{answer, withZeros}
+use Rattle.cluster.specs.Rules.{inRange, rule1, ruleRefusal, stateRefusal}
+use Rattle.images.specs.Image.{markSecond, headerWidth, requestWidth, nextEpochPlace, nextIdPlace, quorumLeaderPlace, quorumIsrPlace}
 
 -- ---- a part of an image, read off the front of the bytes
 -- what a part gives: a value and the bytes behind it; or it is missing, or has an end above L
@@ -29,10 +30,10 @@ pub data Parsed (A : Type 0) : Type 0 where
   endAbove : Parsed A
   parsed : A → List ℕ → Parsed A
 
--- the number of each: "a missing part 21 and an end above L 1"
+-- the number of each: "a missing part 21 and an end above L 1", which is S2
 unfoldable pub refusalOf : {A : Type 0} → Parsed A → ℕ
 refusalOf missing = tooShort
-refusalOf endAbove = brokenState
+refusalOf endAbove = ruleRefusal 2
 refusalOf (parsed x rest) = accepted
 
 -- one part, and then what follows it: "as met"
@@ -57,9 +58,6 @@ fillIn put read n array bs = andThen (fill read n array bs) (λ l rest. parsed (
 
 -- ---- the parts of an image, each as it is written
 -- "(id, epoch) per record"
-abbrev pub recordOf : List ℕ → Record
-recordOf bs = record { id = byteAt bs 0; epoch = epochOfByte (byteAt bs 1) }
-
 abbrev pub readRecord : List ℕ → Parsed Record
 readRecord bs = part recordWidth recordOf bs
 
@@ -84,7 +82,7 @@ unfoldable pub readLogWithin : ℕ → Replica → List ℕ → Parsed Replica
 readLogWithin l p bs = cond (leb (p .end) l) (readLog p bs) endAbove
 
 unfoldable pub readReplica : ℕ → List ℕ → Parsed Replica
-readReplica l bs = andThen (part replicaWidth replicaOfHead bs) (readLogWithin l)
+readReplica l bs = andThen (part headWidth replicaOfHead bs) (readLogWithin l)
 
 -- the requests, one for each epoch below the next one
 unfoldable pub readRequests : State → List ℕ → Parsed State
@@ -98,8 +96,8 @@ readReplicas s bs = fillIn (withReplicas s) (readReplica (logSize (s .limits))) 
 -- the state that they give, with zeros for requests and replicas; its quorum epoch is next epoch minus 1
 unfoldable pub headerState : List ℕ → State
 headerState bs =
-    stateOf (limitsOf bs) (byteAt bs 6) (byteAt bs 7)
-    (record { epoch = lastEpoch (byteAt bs 6); leader = leaderOfByte (byteAt bs 8); isr = byteAt bs 9 })
+    stateOf (limitsOf bs) (byteAt bs nextEpochPlace) (byteAt bs nextIdPlace)
+    (record { epoch = lastEpoch (byteAt bs nextEpochPlace); leader = leaderOfByte (byteAt bs quorumLeaderPlace); isr = byteAt bs quorumIsrPlace })
     (replicate 16 zeroRequest) (replicate 5 zeroReplica)
 
 -- "under ten bytes 21; mark 20; R, L, M, X out of range 22; next epoch or next id out of range 1": with R, L, M, X in range the
@@ -109,28 +107,21 @@ headerRefusal bs =
     refuse (ltb (length bs) headerWidth) tooShort
     (refuse (not (marked markSecond bs)) wrongMark
     (refuse (not (inRange (limitsOf bs))) badConfiguration
-    (refuse (not (rule1 (limitsOf bs) (byteAt bs 6) (byteAt bs 7))) brokenState
+    (refuse (not (rule1 (limitsOf bs) (byteAt bs nextEpochPlace) (byteAt bs nextIdPlace))) (ruleRefusal 1)
     accepted)))
 
 -- ---- the whole
--- "a refused read .. gives an all-zero state"
-abbrev pub refused : ℕ → Outcome
-refused number = answer number zeroState
-
 -- "bytes left over 23; other state rules 1"
 unfoldable pub finished : Parsed State → Outcome
-finished missing = refused (refusalOf {A = State} missing)
-finished endAbove = refused (refusalOf {A = State} endAbove)
-finished (parsed s (b ∷ bs)) = refused leftOver
-finished (parsed s []) = cond (rules s) (answer accepted s) (refused brokenState)
+finished missing = withZeros (refusalOf {A = State} missing)
+finished endAbove = withZeros (refusalOf {A = State} endAbove)
+finished (parsed s (b ∷ bs)) = withZeros leftOver
+finished (parsed s []) = byRefusal (stateRefusal s) withZeros (answer accepted s)
 
 -- what follows the first ten bytes, front to back
 unfoldable pub readBody : List ℕ → Outcome
 readBody bs = finished (andThen (readRequests (headerState bs) (drop headerWidth bs)) readReplicas)
 
-unfoldable pub readBy : ℕ → List ℕ → Outcome
-readBy zero bs = readBody bs
-readBy (suc n) bs = refused (suc n)
-
+-- "a refused read .. gives an all-zero state"
 unfoldable pub readImage : List ℕ → Outcome
-readImage bs = readBy (headerRefusal bs) bs
+readImage bs = byRefusal (headerRefusal bs) withZeros (readBody bs)

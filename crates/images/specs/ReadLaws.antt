@@ -5,34 +5,28 @@ use mathlib.Core.Path.{_≡_, refl, sym, _∙_, ap}
 use mathlib.Core.Bool.{true, not, cond}
 use mathlib.Core.List.{List, [], _∷_}
 use native.Mathlib.Numerals.{add-one}
-use native.Mathlib.Nat.{add-zero, mul-zero, mul-suc}
+use native.Mathlib.Nat.{mul-zero, mul-suc}
 use native.Mathlib.Omega.{arith}
 use native.Mathlib.Decide.{ℕ-discrete, decLt}
 use lib.Dec.{leb, ltb}
-use lib.ListN.{length, drop, getD, set, replicate, length-drop}
-use lib.Seq.{getD-drop, drop-drop}
+use lib.ListN.{length, drop, set, replicate, length-drop}
+use lib.Seq.{drop-drop}
 use borrow.Author.Tests.{le-leb, lt-leb, ltb-false, not-false}
-use Rattle.logic.specs.Refuse.{refuse-zero}
+use Rattle.logic.specs.Refuse.{refuse-zero, refuse-not, first-yes, first-no, byRefusal, by-accepted, by-refused}
 use Rattle.logic.specs.Table.{cond-true, cond-false}
-use Rattle.parts.specs.Refusal.{accepted, brokenState, tooShort, leftOver}
+use Rattle.parts.specs.Refusal.{accepted, tooShort, leftOver}
 use Rattle.parts.specs.Mark.{byteAt, marked}
-use Rattle.replica.specs.Replica.{withLog}
 use Rattle.replica.specs.declared.Replica.{Replica}
+use Rattle.replica.specs.Replica.{withLog}
+use Rattle.replica.specs.ReplicaBytes.{headWidth, recordWidth, recordOf}
 use Rattle.cluster.specs.declared.State.{State}
 use Rattle.cluster.specs.State.{limitsOf, zeroRequest, withRequests, withReplicas}
-use Rattle.cluster.specs.Rules.{inRange, rule1, rules, stateRefusal}
-use Rattle.cluster.specs.RuleLaws.{Sizes, sizes-of, refusal-met, refusal-broken}
-use Rattle.cluster.specs.Fresh.{answer}
-use Rattle.images.specs.Image.{markSecond, headerWidth, requestWidth, replicaWidth, recordWidth}
-use Rattle.images.specs.Read.{Parsed, missing, endAbove, parsed, refusalOf, andThen, part, fill, fillIn, recordOf, readRecord, requestOf, readRequest, replicaOfHead, readRequests, readReplicas, headerState, readLog, readLogWithin, readReplica, headerRefusal, refused, finished, readBody, readBy, readImage}
-use Rattle.images.specs.Layout.{wholeRefusal, replicasAt, bodyOf, layoutBy, layoutRefusal, partAt, storedBelow, requestsOf, replicaLength, replicaWithLog, replicasPlace}
-
--- ---- bytes at a place
-pub byte-at : (bs : List ℕ) (at k : ℕ) → byteAt (drop at bs) k ≡ getD bs (at + k) 0
-byte-at bs at k = getD-drop at bs k 0
-
-pub first-byte : (bs : List ℕ) (at : ℕ) → byteAt (drop at bs) 0 ≡ getD bs at 0
-first-byte bs at = byte-at bs at 0 ∙ ap (λ (k : ℕ). getD bs k 0) (add-zero at)
+use Rattle.cluster.specs.Rules.{inRange, rule1, ruleRefusal, stateRefusal}
+use Rattle.cluster.specs.RuleLaws.{Sizes, sizes-of, rule-refused}
+use Rattle.cluster.specs.Outcome.{answer, withZeros}
+use Rattle.images.specs.Image.{markSecond, headerWidth, requestWidth}
+use Rattle.images.specs.Read.{Parsed, missing, endAbove, parsed, refusalOf, andThen, part, fill, fillIn, readRecord, requestOf, readRequest, replicaOfHead, readRequests, readReplicas, headerState, readLog, readLogWithin, readReplica, headerRefusal, finished, readBody, readImage}
+use Rattle.images.specs.Layout.{wholeRefusal, replicasAt, bodyOf, layoutRefusal, partAt, storedBelow, requestsOf, replicaLength, replicaWithLog, replicasPlace}
 
 -- ---- a part of n bytes, and at a place
 pub part-back : {A : Type 0} (n : ℕ) (value : List ℕ → A) (bs : List ℕ) → n ≤ length bs → part n value bs ≡ parsed (value bs) (drop n bs)
@@ -133,7 +127,7 @@ module _ {A : Type 0} where
   whole-parsed : (m : Parsed A) → wholeRefusal m ≡ accepted → (x : A) × (m ≡ parsed x [])
   unfolding wholeRefusal refusalOf
   whole-parsed missing h = absurd (omega arith)
-  whole-parsed endAbove h = absurd (omega arith)
+  whole-parsed endAbove h = absurd (rule-refused 1 h)
   whole-parsed (parsed x (b ∷ bs)) h = absurd (omega arith)
   whole-parsed (parsed x []) h = (x, refl)
 
@@ -232,11 +226,11 @@ header-in-range bs h =
     let a = refuse-zero (ltb (length bs) headerWidth) 20 _ h in
     let b = refuse-zero (not (marked markSecond bs)) 19 _ (a .1) in
     let c = refuse-zero (not (inRange (limitsOf bs))) 21 _ (b .1) in
-    let d = refuse-zero (not (rule1 (limitsOf bs) (byteAt bs 6) (byteAt bs 7))) 0 _ (c .1) in
+    let d = refuse-not (not (rule1 (limitsOf bs) (byteAt bs 6) (byteAt bs 7))) (ruleRefusal 1) _ (rule-refused 0) (c .1) in
     record {
       long = ltb-false (length bs) headerWidth (a .0);
       mark = not-false (marked markSecond bs) (b .0);
-      sizes = not-false (rule1 (limitsOf bs) (byteAt bs 6) (byteAt bs 7)) (d .0);
+      sizes = not-false (rule1 (limitsOf bs) (byteAt bs 6) (byteAt bs 7)) d;
     }
 
 pub header-sizes : (bs : List ℕ) → HeaderInRange bs → Sizes (limitsOf bs) (byteAt bs 6) (byteAt bs 7)
@@ -244,40 +238,40 @@ header-sizes bs h = sizes-of (limitsOf bs) (byteAt bs 6) (byteAt bs 7) (h .sizes
 
 -- ---- a replica: its first five bytes, its end, its log
 module _ (l : ℕ) (bs : List ℕ) (at : ℕ) where
-  replica-head : at + replicaWidth ≤ length bs
-      → readReplica l (drop at bs) ≡ readLogWithin l (replicaOfHead (drop at bs)) (drop replicaWidth (drop at bs))
+  replica-head : at + headWidth ≤ length bs
+      → readReplica l (drop at bs) ≡ readLogWithin l (replicaOfHead (drop at bs)) (drop headWidth (drop at bs))
   unfolding readReplica
   replica-head h =
-      then-parsed (part replicaWidth replicaOfHead (drop at bs)) (readLogWithin l) (replicaOfHead (drop at bs)) (drop replicaWidth (drop at bs))
-      (part-back replicaWidth replicaOfHead (drop at bs) (rw length-drop (omega arith)))
+      then-parsed (part headWidth replicaOfHead (drop at bs)) (readLogWithin l) (replicaOfHead (drop at bs)) (drop headWidth (drop at bs))
+      (part-back headWidth replicaOfHead (drop at bs) (rw length-drop (omega arith)))
 
-  replica-log : at + replicaWidth ≤ length bs → byteAt (drop at bs) 4 ≤ l
-      → readReplica l (drop at bs) ≡ readLog (replicaOfHead (drop at bs)) (drop replicaWidth (drop at bs))
+  replica-log : at + headWidth ≤ length bs → byteAt (drop at bs) 4 ≤ l
+      → readReplica l (drop at bs) ≡ readLog (replicaOfHead (drop at bs)) (drop headWidth (drop at bs))
   unfolding readLogWithin
   replica-log h k =
       replica-head h
-      ∙ cond-true (leb (byteAt (drop at bs) 4) l) (readLog (replicaOfHead (drop at bs)) (drop replicaWidth (drop at bs))) endAbove
+      ∙ cond-true (leb (byteAt (drop at bs) 4) l) (readLog (replicaOfHead (drop at bs)) (drop headWidth (drop at bs))) endAbove
       (le-leb (byteAt (drop at bs) 4) l k)
 
-  pub replica-missing : length bs - at < replicaWidth → tooShort ≡ refusalOf (readReplica l (drop at bs))
+  pub replica-missing : length bs - at < headWidth → tooShort ≡ refusalOf (readReplica l (drop at bs))
   unfolding readReplica refusalOf
   replica-missing k =
-      let e : part replicaWidth replicaOfHead (drop at bs) ≡ missing = part-missing replicaWidth replicaOfHead bs at k in
-      sym (then-stops (part replicaWidth replicaOfHead (drop at bs)) (readLogWithin l) (λ z. omega (arith, sym (ap refusalOf e) ∙ z)) ∙ ap refusalOf e)
+      let e : part headWidth replicaOfHead (drop at bs) ≡ missing = part-missing headWidth replicaOfHead bs at k in
+      sym (then-stops (part headWidth replicaOfHead (drop at bs)) (readLogWithin l) (λ z. omega (arith, sym (ap refusalOf e) ∙ z)) ∙ ap refusalOf e)
 
-  pub replica-above : at + replicaWidth ≤ length bs → l < byteAt (drop at bs) 4 → brokenState ≡ refusalOf (readReplica l (drop at bs))
+  pub replica-above : at + headWidth ≤ length bs → l < byteAt (drop at bs) 4 → ruleRefusal 2 ≡ refusalOf (readReplica l (drop at bs))
   unfolding readLogWithin refusalOf
   replica-above h k =
       ap refusalOf (sym (replica-head h
-      ∙ cond-false (leb (byteAt (drop at bs) 4) l) (readLog (replicaOfHead (drop at bs)) (drop replicaWidth (drop at bs))) endAbove
+      ∙ cond-false (leb (byteAt (drop at bs) 4) l) (readLog (replicaOfHead (drop at bs)) (drop headWidth (drop at bs))) endAbove
       (lt-leb (byteAt (drop at bs) 4) l k)))
 
-  pub replica-short : at + replicaWidth ≤ length bs → byteAt (drop at bs) 4 ≤ l → length bs - at < replicaLength (drop at bs)
+  pub replica-short : at + headWidth ≤ length bs → byteAt (drop at bs) 4 ≤ l → length bs - at < replicaLength (drop at bs)
       → tooShort ≡ refusalOf (readReplica l (drop at bs))
   unfolding readLog fillIn
   replica-short h k short =
       let p = replicaOfHead (drop at bs) in
-      let rest = drop replicaWidth (drop at bs) in
+      let rest = drop headWidth (drop at bs) in
       let e = fill-short recordWidth recordOf (p .log) rest (p .end) (rw (length-drop, length-drop) (omega arith)) in
       sym (ap refusalOf (replica-log h k)
       ∙ then-stops (fill readRecord (p .end) (p .log) rest) (λ l left. parsed (withLog p l) left) (λ z. omega (arith, sym e ∙ z)) ∙ e)
@@ -287,13 +281,13 @@ module _ (l : ℕ) (bs : List ℕ) (at : ℕ) where
   unfolding readLog fillIn
   replica-whole h k =
       let p = replicaOfHead (drop at bs) in
-      let rest = drop replicaWidth (drop at bs) in
+      let rest = drop headWidth (drop at bs) in
       replica-log (omega arith) k
       ∙ then-parsed (fill readRecord (p .end) (p .log) rest) (λ l left. parsed (withLog p l) left)
       (storedBelow (p .end) (partAt recordWidth recordOf rest) (p .log)) (drop (recordWidth * p .end) rest)
       (fill-parts recordWidth recordOf (p .log) rest (p .end) (rw (length-drop, length-drop) (omega arith)))
       ∙ ap (parsed (replicaWithLog (drop at bs)))
-      (drop-drop (recordWidth * p .end) replicaWidth (drop at bs) ∙ drop-drop (replicaLength (drop at bs)) at bs)
+      (drop-drop (recordWidth * p .end) headWidth (drop at bs) ∙ drop-drop (replicaLength (drop at bs)) at bs)
 
   -- a replica that is not refused
   pub record ReplicaFits : Type 0 where
@@ -302,11 +296,11 @@ module _ (l : ℕ) (bs : List ℕ) (at : ℕ) where
 
   pub replica-fits : at ≤ length bs → refusalOf (readReplica l (drop at bs)) ≡ accepted → ReplicaFits
   replica-fits w ok =
-      elim (decLt (length bs - at) replicaWidth) [
+      elim (decLt (length bs - at) headWidth) [
         | yes k ↦ absurd (omega (arith, replica-missing k ∙ ok))
         | no k ↦
             elim (decLt l (byteAt (drop at bs) 4)) [
-              | yes a ↦ absurd (omega (arith, replica-above (omega arith) a ∙ ok))
+              | yes a ↦ absurd (rule-refused 1 (replica-above (omega arith) a ∙ ok))
               | no a ↦
                   elim (decLt (length bs - at) (replicaLength (drop at bs))) [
                     | yes b ↦ absurd (omega (arith, replica-short (omega arith) (omega arith) b ∙ ok))
@@ -361,13 +355,12 @@ module _ (bs : List ℕ) where
 
   -- ---- the whole image
   pub layout-header : (n : ℕ) → headerRefusal bs ≡ n → (n ≡ accepted → ⊥) → n ≡ layoutRefusal bs
-  unfolding layoutRefusal layoutBy
-  layout-header zero e h = absurd (h refl)
-  layout-header (suc n) e h = rw e
+  unfolding layoutRefusal
+  layout-header n e h = rw (← e) (first-yes (headerRefusal bs) (wholeRefusal (bodyOf bs)) (λ z. h (sym e ∙ z)))
 
   pub layout-body : headerRefusal bs ≡ accepted → wholeRefusal (bodyOf bs) ≡ layoutRefusal bs
-  unfolding layoutRefusal layoutBy
-  layout-body e = rw e
+  unfolding layoutRefusal
+  layout-body e = first-no (headerRefusal bs) (wholeRefusal (bodyOf bs)) e
 
   -- an image whose parts are all there
   pub record LaidOut : Type 0 where
@@ -382,33 +375,33 @@ module _ (bs : List ℕ) where
       ]
 
   -- any other is refused
-  finished-by : (m : Parsed State) → (wholeRefusal m ≡ accepted → ⊥) → refused (wholeRefusal m) ≡ finished m
+  finished-by : (m : Parsed State) → (wholeRefusal m ≡ accepted → ⊥) → withZeros (wholeRefusal m) ≡ finished m
   unfolding finished wholeRefusal refusalOf
   finished-by missing h = refl
   finished-by endAbove h = refl
   finished-by (parsed s (b ∷ bs)) h = refl
   finished-by (parsed s []) h = absurd (h refl)
 
-  pub read-refused : (n : ℕ) → n ≡ layoutRefusal bs → (n ≡ accepted → ⊥) → refused n ≡ readImage bs
-  unfolding readImage readBy readBody
-  read-refused n e h = go (headerRefusal bs) refl
-    where
-      go : (k : ℕ) → headerRefusal bs ≡ k → refused n ≡ readBy (headerRefusal bs) bs
-      go zero q =
-          let w : n ≡ wholeRefusal (bodyOf bs) = e ∙ sym (layout-body q) in
-          rw q (ap refused w ∙ finished-by (bodyOf bs) (λ z. h (w ∙ z)))
-      go (suc k) q = rw q (ap refused (e ∙ sym (layout-header (suc k) q (λ z. omega arith))))
+  pub read-refused : (n : ℕ) → n ≡ layoutRefusal bs → (n ≡ accepted → ⊥) → withZeros n ≡ readImage bs
+  unfolding readImage readBody
+  read-refused n e h =
+      elim (ℕ-discrete (headerRefusal bs) accepted) [
+        | yes q ↦
+            let w : n ≡ wholeRefusal (bodyOf bs) = e ∙ sym (layout-body q) in
+            ap withZeros w ∙ finished-by (bodyOf bs) (λ z. h (w ∙ z)) ∙ by-accepted (headerRefusal bs) withZeros (finished (bodyOf bs)) q
+        | no q ↦
+            ap withZeros (e ∙ sym (layout-header (headerRefusal bs) refl q)) ∙ by-refused (headerRefusal bs) withZeros (finished (bodyOf bs)) q
+      ]
 
   -- where they are all there, the rules decide
   module _ (s : State) (laid : layoutRefusal bs ≡ accepted) (is : bodyOf bs ≡ parsed s []) where
-    read-state : cond (rules s) (answer accepted s) (refused brokenState) ≡ readImage bs
-    unfolding readImage readBy readBody finished
-    read-state = rw (laid-out laid .header, is)
+    read-state : byRefusal (stateRefusal s) withZeros (answer accepted s) ≡ readImage bs
+    unfolding readImage readBody finished
+    read-state =
+        ap finished (sym is) ∙ by-accepted (headerRefusal bs) withZeros (finished (bodyOf bs)) (laid-out laid .header)
 
     pub read-met : stateRefusal s ≡ accepted → answer accepted s ≡ readImage bs
-    read-met h = sym (cond-true (rules s) (answer accepted s) (refused brokenState) (refusal-met s h)) ∙ read-state
+    read-met h = by-accepted (stateRefusal s) withZeros (answer accepted s) h ∙ read-state
 
-    pub read-unmet : (stateRefusal s ≡ accepted → ⊥) → refused (stateRefusal s) ≡ readImage bs
-    read-unmet h =
-        let broken = refusal-broken s h in
-        ap refused (broken .1) ∙ sym (cond-false (rules s) (answer accepted s) (refused brokenState) (broken .0)) ∙ read-state
+    pub read-unmet : (stateRefusal s ≡ accepted → ⊥) → withZeros (stateRefusal s) ≡ readImage bs
+    read-unmet h = by-refused (stateRefusal s) withZeros (answer accepted s) h ∙ read-state

@@ -6,58 +6,58 @@ use mathlib.Core.List.{List, [], _∷_, _++_, append-nil}
 use native.Mathlib.Omega.{arith}
 use lib.Dec.{eqb, leb, ltb}
 use lib.IntN.{ℤ, pos, negsuc}
-use lib.Signed.{mag}
 use lib.ListN.{length, drop, replicate}
 use borrow.Author.Tests.{leb-true, le-leb, le-ltb, eqb-true}
 use Rattle.logic.specs.Tests.{every-at, and-left, and-right}
-use Rattle.logic.specs.Refuse.{refuse-none}
+use Rattle.logic.specs.Refuse.{refuse-none, by-accepted, by-zero}
 use Rattle.logic.specs.Table.{table, tableFrom, cond-true}
 use Rattle.logic.specs.Concat.{concatBelow}
 use Rattle.parts.specs.declared.Leader.{Leader}
 use Rattle.parts.specs.declared.Leader.the-variants.{None, Broker}
-use Rattle.parts.specs.Refusal.{accepted, brokenState, wrongMark, tooShort, badConfiguration}
+use Rattle.parts.specs.Refusal.{accepted, wrongMark, tooShort, badConfiguration}
 use Rattle.parts.specs.IsrLaws.{below-32}
 use Rattle.parts.specs.Epoch.{epochByte, epochOfByte, lastEpoch}
 use Rattle.parts.specs.Leader.{leaderByte, leaderOfByte}
-use Rattle.parts.specs.ByteLaws.{epoch-back, epoch-byte-back, leader-back, leader-byte-back}
+use Rattle.parts.specs.ByteLaws.{SmallEpoch, SmallLeader, epoch-back, epoch-byte-back, leader-back, leader-byte-back}
+use Rattle.parts.specs.Bytes.{Bytes, bytes-none, bytes-more, bytes-append, bytes-concat, bytes-behind, front}
 use Rattle.parts.specs.Mark.{byteAt, markFirst, marked}
 use Rattle.replica.specs.declared.Record.{Record}
 use Rattle.replica.specs.declared.Replica.{Replica}
 use Rattle.replica.specs.Replica.{replicaOf, zeroRecord, zeroReplica, noReplica, recordAt, withLog, tidyRecord, tidyReplica}
-use Rattle.replica.specs.LogLaws.{InUse}
+use Rattle.replica.specs.ReplicaBytes.{headWidth, recordWidth, recordBytes, recordBytesAt, recordOf}
+use Rattle.replica.specs.ReplicaBytesLaws.{SmallReplica}
 use Rattle.cluster.specs.declared.Request.{Request}
 use Rattle.cluster.specs.declared.State.{State}
 use Rattle.cluster.specs.declared.Outcome.{Outcome}
 use Rattle.cluster.specs.State.{replicaCount, logSize, nextLeaderEpoch, nextRecordId, zeroRequest, requestAt, replicaAt, stateOf, withRequests, withReplicas, tidyRequestAt, tidyReplicaAt, tidy}
-use Rattle.cluster.specs.Rules.{inRange, rule1Tests, rule1, ruleTests, rules}
-use Rattle.cluster.specs.RuleLaws.{rules-bounded}
-use Rattle.cluster.specs.Predicates.{Named, MatchesRequest, rules-iff}
+use Rattle.cluster.specs.Rules.{inRange, rule1Tests, rule1, ruleTests, rules, ruleRefusal, stateRefusal}
+use Rattle.cluster.specs.RuleLaws.{rules-bounded, refusal-met, met-refusal, rule-refused}
+use Rattle.cluster.specs.Predicates.{Named, rules-iff}
+use Rattle.cluster.specs.StateBytes.{named-small, replica-small}
 use Rattle.cluster.specs.Unused.{rules-tidy}
-use Rattle.cluster.specs.Fresh.{answer}
-use Rattle.images.specs.Image.{markSecond, recordBytes, recordBytesAt, logBytes, requestBytes, requestBytesAt, requestsBytes, replicaHead, replicaBytes, replicaBytesAt, replicasBytes, headerBytes, image, headerWidth, requestWidth, replicaWidth, recordWidth}
+use Rattle.cluster.specs.Outcome.{answer, withZeros}
+use Rattle.images.specs.Image.{markSecond, logBytes, requestBytes, requestBytesAt, requestsBytes, replicaHead, replicaBytes, replicaBytesAt, replicasBytes, headerBytes, image, headerWidth, requestWidth}
 use Rattle.images.specs.ImageLaws.{image-length}
-use Rattle.images.specs.Read.{Parsed, missing, endAbove, parsed, andThen, part, fill, fillIn, recordOf, readRecord, requestOf, readRequest, replicaOfHead, readLog, readLogWithin, readReplica, readRequests, readReplicas, headerState, headerRefusal, refused, finished, readBody, readBy, readImage, refusalOf}
+use Rattle.images.specs.Read.{Parsed, missing, endAbove, parsed, andThen, part, fill, fillIn, readRecord, requestOf, readRequest, replicaOfHead, readLog, readLogWithin, readReplica, readRequests, readReplicas, headerState, headerRefusal, finished, readBody, readImage, refusalOf}
 use Rattle.images.specs.ReadLaws.{part-back, then-parsed, then-from, parsed-value, parsed-rest, HeaderInRange, header-in-range, header-sizes}
-use Rattle.images.specs.PartLaws.{Bytes, bytes-none, bytes-more, bytes-append, bytes-concat, bytes-behind, front, part-read-back, fill-back, Faithful, fill-read-back}
+use Rattle.images.specs.PartLaws.{part-read-back, fill-back, Faithful, fill-read-back}
 
 -- ---- written, and read back
-record-back : (r : Record) (rest : List ℕ) → mag (r .epoch) < 128 → readRecord (recordBytes r ++ rest) ≡ parsed r rest
+record-back : (r : Record) (rest : List ℕ) → SmallEpoch (r .epoch) → readRecord (recordBytes r ++ rest) ≡ parsed r rest
 record-back r rest h =
     part-back recordWidth recordOf (recordBytes r ++ rest) (omega arith)
     ∙ ap (λ (z : ℤ). parsed (record { id = r .id; epoch = z }) rest) (epoch-back (r .epoch) h)
 
-request-back : (q : Request) (rest : List ℕ) → ((b : ℕ) → q .leader ≡ Broker b → b < 255) → readRequest (requestBytes q ++ rest) ≡ parsed q rest
+request-back : (q : Request) (rest : List ℕ) → SmallLeader (q .leader) → readRequest (requestBytes q ++ rest) ≡ parsed q rest
 request-back q rest h =
     part-back requestWidth requestOf (requestBytes q ++ rest) (omega arith)
     ∙ ap (λ (l : Leader). parsed (record { leader = l; isr = q .isr }) rest) (leader-back (q .leader) h)
 
 -- what the rules say of a replica that its bytes rely on
-pub record Writable (l : ℕ) (p : Replica) : Type 0 where
-  pub room : l ≤ 16
-  pub end : p .end ≤ l
-  pub epoch : mag (p .epoch) < 128
-  pub leader : (b : ℕ) → p .leader ≡ Broker b → b < 255
-  pub log : (x : ℕ) → x < p .end → mag (recordAt p x .epoch) < 128
+record Writable (l : ℕ) (p : Replica) : Type 0 where
+  room : l ≤ 16
+  end : p .end ≤ l
+  small : SmallReplica (p .end) p
 
 -- its log is read into an array of zeros
 log-back : (l : ℕ) (p : Replica) (rest : List ℕ) → Writable l p
@@ -67,57 +67,36 @@ log-back l p rest w =
     then-parsed (fill readRecord (p .end) (replicate 16 zeroRecord) (concatBelow (p .end) (recordBytesAt p) ++ rest)) (λ l left. parsed (withLog p l) left)
     (table 16 (tidyRecord p)) rest
     (fill-back readRecord (recordBytesAt p) (recordAt p) zeroRecord 16 (p .end) (omega (arith, w .end, w .room))
-    (λ x k left. record-back (recordAt p x) left (w .log x k)) rest)
+    (λ x k left. record-back (recordAt p x) left (w .small .log x k)) rest)
 
-head-back : (p : Replica) (rest : List ℕ) → mag (p .epoch) < 128 → ((b : ℕ) → p .leader ≡ Broker b → b < 255)
-    → part replicaWidth replicaOfHead (replicaHead p ++ rest) ≡ parsed (withLog p (replicate 16 zeroRecord)) rest
+head-back : (p : Replica) (rest : List ℕ) → SmallEpoch (p .epoch) → SmallLeader (p .leader)
+    → part headWidth replicaOfHead (replicaHead p ++ rest) ≡ parsed (withLog p (replicate 16 zeroRecord)) rest
 head-back p rest h k =
-    part-back replicaWidth replicaOfHead (replicaHead p ++ rest) (omega arith)
+    part-back headWidth replicaOfHead (replicaHead p ++ rest) (omega arith)
     ∙ ap (λ (z : ℤ). parsed (replicaOf (p .hw) z (leaderOfByte (leaderByte (p .leader))) (p .isr) (p .end) (replicate 16 zeroRecord)) rest) (epoch-back (p .epoch) h)
     ∙ ap (λ (l : Leader). parsed (replicaOf (p .hw) (p .epoch) l (p .isr) (p .end) (replicate 16 zeroRecord)) rest) (leader-back (p .leader) k)
 
 replica-back : (l : ℕ) (p : Replica) (rest : List ℕ) → Writable l p → readReplica l (replicaBytes p ++ rest) ≡ parsed (tidyReplica p) rest
 unfolding readReplica readLogWithin replicaBytes
 replica-back l p rest w =
-    then-parsed (part replicaWidth replicaOfHead (replicaHead p ++ (logBytes p ++ rest))) (readLogWithin l) (withLog p (replicate 16 zeroRecord)) (logBytes p ++ rest)
-    (head-back p (logBytes p ++ rest) (w .epoch) (w .leader))
+    then-parsed (part headWidth replicaOfHead (replicaHead p ++ (logBytes p ++ rest))) (readLogWithin l) (withLog p (replicate 16 zeroRecord)) (logBytes p ++ rest)
+    (head-back p (logBytes p ++ rest) (w .small .epoch) (w .small .leader))
     ∙ cond-true (leb (p .end) l) (readLog (withLog p (replicate 16 zeroRecord)) (logBytes p ++ rest)) endAbove (le-leb (p .end) l (w .end))
     ∙ log-back l p rest w
 
 -- ---- a state that meets the rules
-pub named-small : (n : ℕ) (l : Leader) (isr : ℕ) → n ≤ 5 → Named n l isr → (b : ℕ) → l ≡ Broker b → b < 255
-named-small n l isr h m b e = omega (arith, m .below b e)
-
-pub matched-small : (next : ℕ) (requests : List Request) (z : ℤ) (l : Leader) (isr : ℕ) → next ≤ 16 → MatchesRequest next requests z l isr → mag z < 128
-matched-small next requests (pos e) l isr h m = omega (arith, m .used e refl .0)
-matched-small next requests (negsuc k) l isr h m = omega (arith, m .low k refl)
-
-in-use-small : (nextId next : ℕ) (r : Record) → next ≤ 16 → InUse nextId next r → mag (r .epoch) < 128
-in-use-small nextId next r h u = go (r .epoch) refl
-  where
-    go : (z : ℤ) → r .epoch ≡ z → mag z < 128
-    go (pos e) q = omega (arith, u .epoch e q)
-    go (negsuc k) q = absurd (u .signed k q)
-
-pub writable : (s : State) → rules s ≡ true → (i : ℕ) → i < replicaCount (s .limits) → Writable (logSize (s .limits)) (replicaAt s i)
+writable : (s : State) → rules s ≡ true → (i : ℕ) → i < replicaCount (s .limits) → Writable (logSize (s .limits)) (replicaAt s i)
 writable s h i k =
     let r = rules-iff s .0 h in
-    let b = rules-bounded s h in
-    record {
-      room = r .s1 .ranges .log;
-      end = r .s2 .ends i k;
-      epoch = matched-small (nextLeaderEpoch s) (s .requests) (replicaAt s i .epoch) (replicaAt s i .leader) (replicaAt s i .isr) (b .requests) (r .s5 i k .request);
-      leader = named-small (replicaCount (s .limits)) (replicaAt s i .leader) (replicaAt s i .isr) (b .replicas) (r .s2 .replicas i k);
-      log = λ x l. in-use-small (nextRecordId s) (nextLeaderEpoch s) (recordAt (replicaAt s i) x) (b .requests) (r .s6 i x (record { replica = k; offset = l }));
-    }
+    record { room = r .s1 .ranges .log; end = r .s2 .ends i k; small = replica-small s h i k }
 
 -- ---- its image is bytes
-epoch-byte-small : (z : ℤ) → mag z < 128 → epochByte z < 256
+epoch-byte-small : (z : ℤ) → SmallEpoch z → epochByte z < 256
 unfolding epochByte
 epoch-byte-small (pos e) h = omega arith
 epoch-byte-small (negsuc k) h = omega arith
 
-leader-byte-small : (l : Leader) → ((b : ℕ) → l ≡ Broker b → b < 255) → leaderByte l < 256
+leader-byte-small : (l : Leader) → SmallLeader l → leaderByte l < 256
 unfolding leaderByte
 leader-byte-small None h = omega arith
 leader-byte-small (Broker b) h = omega (arith, h b refl)
@@ -134,14 +113,14 @@ replica-bytes s h i k =
     let m = r .s2 .replicas i k in
     bytes-append (replicaHead p) (logBytes p)
     (bytes-more _ _ (omega (arith, r .s5 i k .hw, w .end, w .room))
-    (bytes-more _ _ (epoch-byte-small (p .epoch) (w .epoch))
-    (bytes-more _ _ (leader-byte-small (p .leader) (w .leader))
+    (bytes-more _ _ (epoch-byte-small (p .epoch) (w .small .epoch))
+    (bytes-more _ _ (leader-byte-small (p .leader) (w .small .leader))
     (bytes-more _ _ (isr-byte-small (replicaCount (s .limits)) (p .isr) (r .s1 .ranges .replicas) (m .within))
     (bytes-more _ _ (omega (arith, w .end, w .room)) bytes-none)))))
     (bytes-concat (p .end) (recordBytesAt p)
     (λ x l.
     bytes-more _ _ (omega (arith, r .s6 i x (record { replica = k; offset = l }) .id, r .s1 .ids, r .s1 .ranges .records))
-    (bytes-more _ _ (epoch-byte-small (recordAt p x .epoch) (w .log x l)) bytes-none)))
+    (bytes-more _ _ (epoch-byte-small (recordAt p x .epoch) (w .small .log x l)) bytes-none)))
 
 pub image-bytes : (s : State) → rules s ≡ true → Bytes (image s)
 unfolding image requestsBytes replicasBytes
@@ -193,7 +172,7 @@ header-accepted s h =
     refuse-none (ltb (length (image s)) headerWidth) tooShort _ (le-ltb (length (image s)) headerWidth (omega (arith, image-length s)))
     (refuse-none (not (marked markSecond (image s))) wrongMark _ refl
     (refuse-none (not (inRange (s .limits))) badConfiguration _ (ap not range)
-    (refuse-none (not (rule1 (s .limits) (nextLeaderEpoch s) (nextRecordId s))) brokenState accepted (ap not (tests 0)) refl)))
+    (refuse-none (not (rule1 (s .limits) (nextLeaderEpoch s) (nextRecordId s))) (ruleRefusal 1) accepted (ap not (tests 0)) refl)))
 
 requests-back : (s : State) (rest : List ℕ) → rules s ≡ true
     → readRequests (bare s) (requestsBytes s ++ rest) ≡ parsed (withRequests (bare s) (table 16 (tidyRequestAt s))) rest
@@ -224,12 +203,12 @@ body-back s h =
 
 -- reading the image of a state that meets the rules gives the state, with zeros in its unused room
 pub read-back : (s : State) → rules s ≡ true → readImage (image s) ≡ answer accepted (tidy s)
-unfolding readImage readBy readBody finished image
+unfolding readImage readBody finished image
 read-back s h =
-    ap (λ (n : ℕ). readBy n (image s)) (header-accepted s h)
+    sym (by-accepted (headerRefusal (image s)) withZeros (readBody (image s)) (header-accepted s h))
     ∙ ap (λ (t : State). finished (andThen (readRequests t (requestsBytes s ++ replicasBytes s)) readReplicas)) (header-back s h)
     ∙ ap finished (body-back s h)
-    ∙ cond-true (rules (tidy s)) (answer accepted (tidy s)) (refused brokenState) (rules-tidy s ∙ h)
+    ∙ sym (by-accepted (stateRefusal (tidy s)) withZeros (answer accepted (tidy s)) (met-refusal (tidy s) (rules-tidy s ∙ h)))
 
 -- ---- read, and written again
 record-faithful : Faithful readRecord recordBytes
@@ -250,14 +229,14 @@ request-faithful bs rest x b h =
     ∙ ap (λ (q : Request). requestBytes q ++ drop requestWidth bs) (p .said)
     ∙ ap (λ (l : List ℕ). requestBytes x ++ l) (p .left)
 
-head-faithful : Faithful (part replicaWidth replicaOfHead) replicaHead
+head-faithful : Faithful (part headWidth replicaOfHead) replicaHead
 unfolding table tableFrom
 head-faithful bs rest x b h =
-    let p = part-read-back replicaWidth replicaOfHead bs rest x h in
-    front replicaWidth bs (p .long)
-    ∙ ap (λ (e : ℕ). byteAt bs 0 ∷ e ∷ byteAt bs 2 ∷ byteAt bs 3 ∷ byteAt bs 4 ∷ drop replicaWidth bs) (sym (epoch-byte-back (byteAt bs 1) (b .byte 1)))
-    ∙ ap (λ (l : ℕ). byteAt bs 0 ∷ epochByte (epochOfByte (byteAt bs 1)) ∷ l ∷ byteAt bs 3 ∷ byteAt bs 4 ∷ drop replicaWidth bs) (sym (leader-byte-back (byteAt bs 2)))
-    ∙ ap (λ (p : Replica). replicaHead p ++ drop replicaWidth bs) (p .said)
+    let p = part-read-back headWidth replicaOfHead bs rest x h in
+    front headWidth bs (p .long)
+    ∙ ap (λ (e : ℕ). byteAt bs 0 ∷ e ∷ byteAt bs 2 ∷ byteAt bs 3 ∷ byteAt bs 4 ∷ drop headWidth bs) (sym (epoch-byte-back (byteAt bs 1) (b .byte 1)))
+    ∙ ap (λ (l : ℕ). byteAt bs 0 ∷ epochByte (epochOfByte (byteAt bs 1)) ∷ l ∷ byteAt bs 3 ∷ byteAt bs 4 ∷ drop headWidth bs) (sym (leader-byte-back (byteAt bs 2)))
+    ∙ ap (λ (p : Replica). replicaHead p ++ drop headWidth bs) (p .said)
     ∙ ap (λ (l : List ℕ). replicaHead x ++ l) (p .left)
 
 -- the log of a replica whose array has 16 places
@@ -284,8 +263,8 @@ within-faithful l p x bs rest h k b = go (leb (p .end) l) refl
 replica-faithful : (l : ℕ) → l ≤ 16 → Faithful (readReplica l) replicaBytes
 unfolding readReplica replicaBytes
 replica-faithful l h bs rest x b e =
-    let f = then-from (part replicaWidth replicaOfHead bs) (readLogWithin l) x rest e in
-    let p = part-read-back replicaWidth replicaOfHead bs (f .1) (f .0) (f .2) in
+    let f = then-from (part headWidth replicaOfHead bs) (readLogWithin l) x rest e in
+    let p = part-read-back headWidth replicaOfHead bs (f .1) (f .0) (f .2) in
     let first : bs ≡ replicaHead (f .0) ++ f .1 = head-faithful bs (f .1) (f .0) b (f .2) in
     let room : length (f .0 .log) ≡ 16 = ap (λ (q : Replica). length (q .log)) (sym (p .said)) in
     let w = within-faithful l (f .0) x (f .1) rest h room (bytes-behind (replicaHead (f .0)) (f .1) (rw first at b)) (f .3) in
@@ -333,13 +312,12 @@ header-faithful bs h =
 finished-accepted : (m : Parsed State) (s : State) → finished m ≡ answer accepted s → (m ≡ parsed s []) × (rules s ≡ true)
 unfolding finished refusalOf
 finished-accepted missing s h = absurd (let z : _≡_ {A = ℕ} 21 0 = ap (λ (o : Outcome). o .refusal) h in omega arith)
-finished-accepted endAbove s h = absurd (let z : _≡_ {A = ℕ} 1 0 = ap (λ (o : Outcome). o .refusal) h in omega arith)
+finished-accepted endAbove s h = absurd (rule-refused 1 (ap (λ (o : Outcome). o .refusal) h))
 finished-accepted (parsed t (b ∷ bs)) s h = absurd (let z : _≡_ {A = ℕ} 23 0 = ap (λ (o : Outcome). o .refusal) h in omega arith)
-finished-accepted (parsed t []) s h = go (rules t) refl h
-  where
-    go : (b : Bool) → rules t ≡ b → cond b (answer accepted t) (refused brokenState) ≡ answer accepted s → (parsed t [] ≡ parsed s []) × (rules s ≡ true)
-    go true e q = let own : t ≡ s = ap (λ (o : Outcome). o .state) q in (ap (λ (u : State). parsed u []) own, rw own at e)
-    go false e q = absurd (let z : _≡_ {A = ℕ} 1 0 = ap (λ (o : Outcome). o .refusal) q in omega arith)
+finished-accepted (parsed t []) s h =
+    let p = by-zero (λ (o : Outcome). o .refusal) (stateRefusal t) withZeros (answer accepted t) (λ k. refl) (ap (λ (o : Outcome). o .refusal) h) in
+    let own : t ≡ s = ap (λ (o : Outcome). o .state) (sym (p .1) ∙ h) in
+    (ap (λ (u : State). parsed u []) own, ap rules (sym own) ∙ refusal-met t (p .0))
 
 -- an accepted reading went through the whole
 record Accepted (bs : List ℕ) (s : State) : Type 0 where
@@ -348,14 +326,11 @@ record Accepted (bs : List ℕ) (s : State) : Type 0 where
   meets : rules s ≡ true
 
 accepted-reading : (bs : List ℕ) (s : State) → readImage bs ≡ answer accepted s → Accepted bs s
-unfolding readImage readBy readBody
-accepted-reading bs s h = go (headerRefusal bs) refl h
-  where
-    go : (n : ℕ) → headerRefusal bs ≡ n → readBy n bs ≡ answer accepted s → Accepted bs s
-    go zero e q =
-        let f = finished-accepted (andThen (readRequests (headerState bs) (drop headerWidth bs)) readReplicas) s q in
-        record { header = header-in-range bs e; body = f .0; meets = f .1 }
-    go (suc n) e q = absurd (let z : suc n ≡ 0 = ap (λ (o : Outcome). o .refusal) q in omega arith)
+unfolding readImage readBody
+accepted-reading bs s h =
+    let p = by-zero (λ (o : Outcome). o .refusal) (headerRefusal bs) withZeros (readBody bs) (λ k. refl) (ap (λ (o : Outcome). o .refusal) h) in
+    let f = finished-accepted (andThen (readRequests (headerState bs) (drop headerWidth bs)) readReplicas) s (sym (p .1) ∙ h) in
+    record { header = header-in-range bs (p .0); body = f .0; meets = f .1 }
 
 same-requests : (t s : State) → withReplicas t (s .replicas) ≡ s → requestsBytes t ≡ requestsBytes s
 unfolding requestsBytes

@@ -13,17 +13,23 @@ use parts::refusal::BUFFER_SHORT;
 // The second byte of the mark of a state image, 4B 53.
 const MARK_SECOND: u8 = 83;
 
-// How many bytes the first part, a request, a replica without its log, and a record have.
+// How many bytes the first part and a request have.
 const HEADER_WIDTH: usize = 10;
 
 const REQUEST_WIDTH: usize = 2;
 
-const REPLICA_WIDTH: usize = 5;
+// Where in the first part these stand.
+const REPLICA_COUNT_PLACE: usize = 2;
 
-const RECORD_WIDTH: usize = 2;
+const LOG_SIZE_PLACE: usize = 3;
 
-// Where a replica's end stands among its bytes.
-const END_PLACE: usize = 4;
+const NEXT_EPOCH_PLACE: usize = 6;
+
+const NEXT_ID_PLACE: usize = 7;
+
+const QUORUM_LEADER_PLACE: usize = 8;
+
+const QUORUM_ISR_PLACE: usize = 9;
 
 // The most bytes that an image has.
 pub const LONGEST: usize = 227;

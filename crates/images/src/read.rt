@@ -7,14 +7,19 @@ ghost use Prim.Native.Nat.{_+_, _*_, _≤_};
 ghost use lib.ListN.{length, drop};
 ghost use Rattle.parts.specs.Refusal.{accepted};
 ghost use Rattle.parts.specs.Mark.{byteAt};
-ghost use Rattle.images.specs.Image.{headerWidth, requestWidth, replicaWidth, recordWidth};
-ghost use Rattle.images.specs.Read.{parsed, refusalOf, recordOf, requestOf, replicaOfHead, readReplica, headerRefusal, refused};
+ghost use Rattle.replica.specs.ReplicaBytes.{headWidth, recordWidth};
+ghost use Rattle.cluster.specs.Outcome.{withZeros};
+ghost use Rattle.images.specs.Image.{headerWidth, requestWidth};
+ghost use Rattle.images.specs.Read.{parsed, refusalOf, requestOf, replicaOfHead, readReplica, headerRefusal};
 ghost use Rattle.images.specs.Layout.{wholeRefusal, replicasAt, bodyOf, layoutRefusal, recordsOf, requestsOf, replicaLength, replicaWithLog};
-use crate::END_PLACE;
 use crate::HEADER_WIDTH;
+use crate::LOG_SIZE_PLACE;
 use crate::MARK_SECOND;
-use crate::RECORD_WIDTH;
-use crate::REPLICA_WIDTH;
+use crate::NEXT_EPOCH_PLACE;
+use crate::NEXT_ID_PLACE;
+use crate::QUORUM_ISR_PLACE;
+use crate::QUORUM_LEADER_PLACE;
+use crate::REPLICA_COUNT_PLACE;
 use crate::REQUEST_WIDTH;
 use cluster::Outcome;
 use cluster::Quorum;
@@ -31,18 +36,10 @@ use parts::refusal::TOO_SHORT;
 use parts::refusal::WRONG_MARK;
 use replica::Record;
 use replica::Replica;
-
-// A record: id, epoch. The caller shows that its two bytes are there.
-pub fn record_of(bytes: &[u8], at: usize) -> Record
-    requires { ⌜ at + recordWidth ≤ length (now bytes) ⌝ }
-    ensures { λ r. ⌜ r ≡ recordOf (drop at (now (bytes .entry))) ⌝ }
-{
-    let epoch = parts::epoch_of_byte(bytes[at + 1]);
-    Record {
-        id: bytes[at],
-        epoch: epoch,
-    }
-}
+use replica::bytes::END_PLACE;
+use replica::bytes::HEAD_WIDTH;
+use replica::bytes::RECORD_WIDTH;
+use replica::bytes::record_of;
 
 // The first records from a place on, as many as are asked for. The caller shows that the array has room for them and that their
 // bytes are there.
@@ -95,7 +92,7 @@ fn requests_of(bytes: &[u8], count: usize) -> [Request; 16]
 
 // A replica up to its log: hw, epoch, leader, ISR, end.
 fn replica_of_head(bytes: &[u8], at: usize) -> Replica
-    requires { ⌜ at + replicaWidth ≤ length (now bytes) ⌝ }
+    requires { ⌜ at + headWidth ≤ length (now bytes) ⌝ }
     ensures { λ r. ⌜ r ≡ replicaOfHead (drop at (now (bytes .entry))) ⌝ }
 {
     let epoch = parts::epoch_of_byte(bytes[at + 1]);
@@ -118,7 +115,7 @@ fn replica_of(bytes: &[u8], at: usize) -> Replica
     ensures { λ r. ⌜ r ≡ replicaWithLog (drop at (now (bytes .entry))) ⌝ }
 {
     let mut p = replica_of_head(bytes, at);
-    let log = log_of(bytes, at + REPLICA_WIDTH, p.end as usize);
+    let log = log_of(bytes, at + HEAD_WIDTH, p.end as usize);
     p.log = log;
     p
 }
@@ -129,14 +126,14 @@ fn replica_refusal(bytes: &[u8], at: usize, log_size: u8) -> u8
     requires { ⌜ at ≤ length (now bytes) ⌝ }
     ensures { λ r. ⌜ r ≡ refusalOf (readReplica «log_size» (drop at (now (bytes .entry)))) ⌝ }
 {
-    if bytes.len() - at < REPLICA_WIDTH {
+    if bytes.len() - at < HEAD_WIDTH {
         return TOO_SHORT;
     }
     let end = bytes[at + END_PLACE];
     if log_size < end {
         return BROKEN_STATE;
     }
-    if bytes.len() - at < REPLICA_WIDTH + RECORD_WIDTH * (end as usize) {
+    if bytes.len() - at < HEAD_WIDTH + RECORD_WIDTH * (end as usize) {
         return TOO_SHORT;
     }
     ACCEPTED
@@ -149,8 +146,8 @@ fn replicas_refusal(bytes: &[u8], at: usize) -> u8
     requires { ⌜ at ≤ length (now bytes) ⌝ }
     ensures { λ r. ⌜ r ≡ wholeRefusal (replicasAt (now (bytes .entry)) at) ⌝ }
 {
-    let count = bytes[2];
-    let log_size = bytes[3];
+    let count = bytes[REPLICA_COUNT_PLACE];
+    let log_size = bytes[LOG_SIZE_PLACE];
     let mut pos = at;
     let mut i: u8 = 0;
     while i < count {
@@ -158,7 +155,7 @@ fn replicas_refusal(bytes: &[u8], at: usize) -> u8
         if refusal != ACCEPTED {
             return refusal;
         }
-        pos = pos + REPLICA_WIDTH + RECORD_WIDTH * (bytes[pos + END_PLACE] as usize);
+        pos = pos + HEAD_WIDTH + RECORD_WIDTH * (bytes[pos + END_PLACE] as usize);
         i = i + 1;
     }
     if pos < bytes.len() {
@@ -176,7 +173,7 @@ fn replicas_of(bytes: &[u8], at: usize) -> [Replica; 5]
     requires { ⌜ wholeRefusal (replicasAt (now bytes) at) ≡ accepted ⌝ }
     ensures { λ r. ⌜ replicasAt (now (bytes .entry)) at ≡ parsed r [] ⌝ }
 {
-    let count = bytes[2] as usize;
+    let count = bytes[REPLICA_COUNT_PLACE] as usize;
     let zero = Replica::zero();
     let mut replicas = [zero; 5];
     let mut pos = at;
@@ -184,7 +181,7 @@ fn replicas_of(bytes: &[u8], at: usize) -> [Replica; 5]
     while i < count {
         let p = replica_of(bytes, pos);
         replicas[i] = p;
-        pos = pos + REPLICA_WIDTH + RECORD_WIDTH * (p.end as usize);
+        pos = pos + HEAD_WIDTH + RECORD_WIDTH * (p.end as usize);
         i = i + 1;
     }
     replicas
@@ -200,11 +197,11 @@ fn header_refusal(bytes: &[u8]) -> u8
     if !mark::is_marked(bytes, MARK_SECOND) {
         return WRONG_MARK;
     }
-    let c = cluster::limits_of(bytes);
+    let c = cluster::limits_at(bytes, mark::WIDTH);
     if !rules::limits_in_range(c) {
         return BAD_CONFIGURATION;
     }
-    if !rules::sizes_in_range(c, bytes[6], bytes[7]) {
+    if !rules::sizes_in_range(c, bytes[NEXT_EPOCH_PLACE], bytes[NEXT_ID_PLACE]) {
         return BROKEN_STATE;
     }
     ACCEPTED
@@ -212,7 +209,7 @@ fn header_refusal(bytes: &[u8]) -> u8
 
 // A refusal, with the all-zero state.
 pub(crate) fn refused(number: u8) -> Outcome
-    ensures { λ r. ⌜ r ≡ refused number ⌝ }
+    ensures { λ r. ⌜ r ≡ withZeros number ⌝ }
 {
     let zero = State::zero();
     Outcome {
@@ -230,7 +227,7 @@ pub fn layout_refusal(bytes: &[u8]) -> u8
     if refusal != ACCEPTED {
         return refusal;
     }
-    let replicas = HEADER_WIDTH + REQUEST_WIDTH * (bytes[6] as usize);
+    let replicas = HEADER_WIDTH + REQUEST_WIDTH * (bytes[NEXT_EPOCH_PLACE] as usize);
     if bytes.len() < replicas {
         return TOO_SHORT;
     }
@@ -242,21 +239,21 @@ pub fn state_of(bytes: &[u8]) -> State
     requires { ⌜ layoutRefusal (now bytes) ≡ accepted ⌝ }
     ensures { λ r. ⌜ bodyOf (now (bytes .entry)) ≡ parsed r [] ⌝ }
 {
-    let limits = cluster::limits_of(bytes);
-    let next = bytes[6];
+    let limits = cluster::limits_at(bytes, mark::WIDTH);
+    let next = bytes[NEXT_EPOCH_PLACE];
     let epoch = parts::last_epoch(next);
-    let leader = Leader::of_byte(bytes[8]);
+    let leader = Leader::of_byte(bytes[QUORUM_LEADER_PLACE]);
     let quorum = Quorum {
         epoch: epoch,
         leader: leader,
-        isr: bytes[9],
+        isr: bytes[QUORUM_ISR_PLACE],
     };
     let requests = requests_of(bytes, next as usize);
     let replicas = replicas_of(bytes, HEADER_WIDTH + REQUEST_WIDTH * (next as usize));
     State {
         limits: limits,
         next_leader_epoch: next,
-        next_record_id: bytes[7],
+        next_record_id: bytes[NEXT_ID_PLACE],
         quorum: quorum,
         requests: requests,
         replicas: replicas,

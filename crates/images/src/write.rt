@@ -2,59 +2,25 @@
 // them. The caller of each function shows that the buffer has room for the part, and that no log or array is read past its end.
 ghost use mathlib.Core.Path.{_≡_};
 ghost use mathlib.Core.Bool.{true};
-ghost use mathlib.Core.List.{[], _∷_};
 ghost use Prim.Native.Nat.{_+_, _≤_};
 ghost use lib.ListN.{length};
 ghost use Rattle.cluster.specs.Rules.{rules, Bounded, LogsBounded};
 ghost use Rattle.logic.specs.Concat.{concatBelow};
 ghost use Rattle.logic.specs.Stores.{Stored};
-ghost use Rattle.images.specs.Image.{recordBytes, recordBytesAt, requestBytes, replicaHeadBy, replicaBytes, replicasBytes, headerBytes, image};
+ghost use Rattle.images.specs.Image.{requestBytes, replicaBytes, replicasBytes, headerBytes, image};
 ghost use Rattle.images.specs.WriteLaws.{requestBytesIn};
-use crate::END_PLACE;
 use crate::HEADER_WIDTH;
 use crate::MARK_SECOND;
-use crate::RECORD_WIDTH;
-use crate::REPLICA_WIDTH;
 use crate::REQUEST_WIDTH;
 use cluster::Request;
 use cluster::State;
+use parts::bytes::put_bytes;
 use parts::mark;
-use replica::Record;
 use replica::Replica;
-
-// Two bytes. The caller shows that the buffer has room for them.
-pub fn put_pair(out: &mut [u8], at: usize, x: u8, y: u8) -> usize
-    requires { ⌜ at + 2 ≤ length (now out) ⌝ }
-    ensures { λ n. ⌜ Stored (now (out .entry)) at (x ∷ y ∷ []) (now (out .exit)) n ⌝ }
-{
-    out[at] = x;
-    out[at + 1] = y;
-    at + 2
-}
-
-// A record: id, epoch.
-fn put_record(out: &mut [u8], at: usize, r: Record) -> usize
-    requires { ⌜ at + length (recordBytes r) ≤ length (now out) ⌝ }
-    ensures { λ n. ⌜ Stored (now (out .entry)) at (recordBytes r) (now (out .exit)) n ⌝ }
-{
-    put_pair(&mut out[..], at, r.id, parts::epoch_byte(r.epoch))
-}
-
-// The first records of a log, as many as are asked for. The caller shows that the array has them, and the buffer room.
-pub fn put_log(out: &mut [u8], at: usize, p: Replica, count: usize) -> usize
-    requires { ⌜ count ≤ 16 ⌝ }
-    requires { ⌜ at + length (concatBelow count (recordBytesAt p)) ≤ length (now out) ⌝ }
-    ensures { λ n. ⌜ Stored (now (out .entry)) at (concatBelow count (recordBytesAt p)) (now (out .exit)) n ⌝ }
-{
-    let mut x: usize = 0;
-    let mut pos = at;
-    while x < count {
-        let r = p.log[x];
-        pos = put_record(&mut out[..], pos, r);
-        x = x + 1;
-    }
-    pos
-}
+use replica::bytes::HEAD_WIDTH;
+use replica::bytes::RECORD_WIDTH;
+use replica::bytes::put_head;
+use replica::bytes::put_log;
 
 // A request: leader, ISR.
 fn put_request(out: &mut [u8], at: usize, q: Request) -> usize
@@ -62,7 +28,8 @@ fn put_request(out: &mut [u8], at: usize, q: Request) -> usize
     ensures { λ n. ⌜ Stored (now (out .entry)) at (requestBytes q) (now (out .exit)) n ⌝ }
 {
     let l = q.leader;
-    put_pair(&mut out[..], at, l.byte(), q.isr)
+    let pair = [l.byte(), q.isr];
+    put_bytes(&mut out[..], at, &pair)
 }
 
 // The first requests, as many as are asked for. They come without the state, which would be copied.
@@ -79,21 +46,6 @@ fn put_requests(out: &mut [u8], at: usize, requests: [Request; 16], count: usize
         e = e + 1;
     }
     pos
-}
-
-// A replica up to its log: hw, epoch, leader, ISR, end. The leader comes as the byte that stands for it. The caller shows that
-// the buffer has room.
-pub fn put_head(out: &mut [u8], at: usize, p: Replica, leader: u8) -> usize
-    requires { ⌜ at + length (replicaHeadBy p leader) ≤ length (now out) ⌝ }
-    ensures { λ n. ⌜ Stored (now (out .entry)) at (replicaHeadBy p leader) (now (out .exit)) n ⌝ }
-{
-    let epoch = parts::epoch_byte(p.epoch);
-    out[at] = p.hw;
-    out[at + 1] = epoch;
-    out[at + 2] = leader;
-    out[at + 3] = p.isr;
-    out[at + END_PLACE] = p.end;
-    at + REPLICA_WIDTH
 }
 
 // A replica: hw, epoch, leader, ISR, end, and its log.
@@ -134,18 +86,19 @@ fn put_header(out: &mut [u8], s: State) -> usize
     let c = s.limits;
     let q = s.quorum;
     let l = q.leader;
-    let leader = l.byte();
-    out[0] = mark::FIRST;
-    out[1] = MARK_SECOND;
-    out[2] = c.replica_count;
-    out[3] = c.log_size;
-    out[4] = c.max_records;
-    out[5] = c.max_leader_epoch;
-    out[6] = s.next_leader_epoch;
-    out[7] = s.next_record_id;
-    out[8] = leader;
-    out[9] = q.isr;
-    HEADER_WIDTH
+    let header = [
+        mark::FIRST,
+        MARK_SECOND,
+        c.replica_count,
+        c.log_size,
+        c.max_records,
+        c.max_leader_epoch,
+        s.next_leader_epoch,
+        s.next_record_id,
+        l.byte(),
+        q.isr,
+    ];
+    put_bytes(&mut out[..], 0, &header)
 }
 
 // The image of a state, at the front of the buffer. The caller shows that the state meets the rules, and that the buffer has
@@ -173,7 +126,7 @@ fn replicas_length(s: State) -> usize
     let mut sum: usize = 0;
     while i < count {
         let p = s.replicas[i];
-        sum = sum + REPLICA_WIDTH + RECORD_WIDTH * (p.end as usize);
+        sum = sum + HEAD_WIDTH + RECORD_WIDTH * (p.end as usize);
         i = i + 1;
     }
     sum

@@ -1,10 +1,10 @@
 use mathlib.Core.Path.{_≡_, sym, _∙_, ap}
 use borrow.Author.Needs.{needs}
 use Rattle.parts.specs.Refusal.{accepted}
-use Rattle.images.specs.Read.{refused}
+use Rattle.cluster.specs.Outcome.{withZeros}
 use Rattle.images.specs.Layout.{layoutRefusal}
 use Rattle.images.specs.ReadLaws.{read-refused, read-met, read-unmet}
-use Rattle.images.specs.PartLaws.{Bytes}
+use Rattle.parts.specs.Bytes.{Bytes}
 use Rattle.images.proofs.read_image.Statement.{statement}
 use Rattle.images.proofs.read_image.Tie as tie
 
@@ -37,7 +37,7 @@ refused-requires-2 c κs = search needs
 returns-2 : tie.Need-returns-2
 returns-2 c =
     let e = c .before .before .state-refusal .ensures in
-    c .refused2 .ensures ∙ ap refused e
+    c .refused2 .ensures ∙ ap withZeros e
     ∙ read-unmet (c .before .before .before .before .before .before .before .args .bytes .now) (c .before .before .before .state-of .result) (laid (c .before .before .before .before)) (c .before .before .before .state-of .ensures) (λ z. c .before .if2 .taken (e ∙ z))
 
 returns-3 : tie.Need-returns-3

@@ -8,8 +8,8 @@ use Rattle.logic.specs.Stores.{stored-front}
 use Rattle.parts.specs.Refusal.{accepted}
 use Rattle.cluster.specs.Rules.{rules}
 use Rattle.cluster.specs.RuleLaws.{refusal-broken, refusal-met}
-use Rattle.images.specs.Image.{image}
-use Rattle.images.specs.WriteLaws.{written, writes-broken, writes-short, writes-all}
+use Rattle.images.specs.Image.{image, written}
+use Rattle.images.specs.WriteLaws.{writes-broken, writes-short, writes-all}
 use Rattle.images.proofs.write_image.Statement.{statement}
 use Rattle.images.proofs.write_image.Tie as tie
 
@@ -22,8 +22,8 @@ state-refusal-requires c κs = search needs
 returns : tie.Need-returns
 returns c =
     let a = c .before .before .before .args in
-    let p = refusal-broken (a .s) (λ e. c .if1 .taken (c .before .state-refusal .ensures ∙ e)) in
-    rw (c .before .state-refusal .ensures, p .1) (writes-broken (a .s) (a .out .now) (p .0))
+    let broken = refusal-broken (a .s) (λ e. c .if1 .taken (c .before .state-refusal .ensures ∙ e)) in
+    rw (c .before .state-refusal .ensures) (writes-broken (a .s) (a .out .now) broken)
 
 image-length-requires : tie.Need-image-length-requires
 image-length-requires c κs = meets c

@@ -1,7 +1,7 @@
 use Prim.Native.Nat.{_+_}
 use borrow.Author.Needs.{needs}
 use Rattle.parts.specs.ByteLaws.{epoch-kept}
-use Rattle.images.specs.ReadLaws.{byte-at, first-byte}
+use Rattle.parts.specs.Bytes.{byte-at, first-byte}
 use Rattle.flat.proofs.read.replica_of.Statement.{statement}
 use Rattle.flat.proofs.read.replica_of.Tie as tie
 

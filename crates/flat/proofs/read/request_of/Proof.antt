@@ -1,5 +1,5 @@
 use borrow.Author.Needs.{needs}
-use Rattle.images.specs.ReadLaws.{byte-at, first-byte}
+use Rattle.parts.specs.Bytes.{byte-at, first-byte}
 use Rattle.flat.proofs.read.request_of.Statement.{statement}
 use Rattle.flat.proofs.read.request_of.Tie as tie
 

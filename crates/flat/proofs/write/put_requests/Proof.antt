@@ -22,14 +22,11 @@ mul-q c = search needs
 element-copy-out-q : tie.Need-element-copy-out-q Inv-loop μ-loop
 element-copy-out-q c = search needs
 
-leader-byte-requires : tie.Need-leader-byte-requires Inv-loop μ-loop
-leader-byte-requires c κs = search needs
-
-put-pair-requires : tie.Need-put-pair-requires Inv-loop μ-loop
-put-pair-requires c κs =
-    let a = c .before .before .before .before .before .before .args in
-    let l = c .before .before .before .before .loop in
-    storing-room (flatRequestAt (a .t3)) (l .e) 16 (c .before .before .before .loop-test .taken) (l .inv .1) (omega arith)
+put-request-requires : tie.Need-put-request-requires Inv-loop μ-loop
+put-request-requires c κs =
+    let a = c .before .before .before .before .before .args in
+    let l = c .before .before .before .loop in
+    storing-room (flatRequestAt (a .t3)) (l .e) 16 (c .before .before .loop-test .taken) (l .inv .1) (omega arith)
 
 add-e : tie.Need-add-e Inv-loop μ-loop
 add-e c = search needs
@@ -39,9 +36,9 @@ loop-less c = search needs
 
 loop-again : tie.Need-loop-again Inv-loop μ-loop
 loop-again c =
-    let a = c .before .before .before .before .before .before .before .before .before .args in
-    let l = c .before .before .before .before .before .before .before .loop in
-    (omega arith, storing-more (flatRequestAt (a .t3)) (l .e) (l .inv .1) (rw (c .before .before .before .leader-byte .ensures) at (c .before .before .put-pair .ensures)))
+    let a = c .before .before .before .before .before .before .before .before .args in
+    let l = c .before .before .before .before .before .before .loop in
+    (omega arith, storing-more (flatRequestAt (a .t3)) (l .e) (l .inv .1) (c .before .before .put-request .ensures))
 
 same-length : tie.Need-same-length Inv-loop μ-loop
 same-length c = stored-length (c .before .loop .inv .1)
@@ -60,8 +57,7 @@ put-requests-spec =
     loop-holds
     mul-q
     element-copy-out-q
-    leader-byte-requires
-    put-pair-requires
+    put-request-requires
     add-e
     loop-less
     loop-again

@@ -6,11 +6,11 @@ use lib.ListN.{length}
 use borrow.Author.Needs.{needs}
 use borrow.Author.Tests.{lt-ltb, le-ltb, not-true, not-false}
 use Rattle.logic.specs.Refuse.{refuse, refuse-yes, refuse-no}
-use Rattle.parts.specs.Refusal.{tooShort, wrongMark, badConfiguration, brokenState}
+use Rattle.parts.specs.Refusal.{tooShort, wrongMark, badConfiguration}
 use Rattle.parts.specs.Mark.{byteAt, marked}
 use Rattle.cluster.specs.declared.Limits.{Limits}
 use Rattle.cluster.specs.State.{limitsOf}
-use Rattle.cluster.specs.Rules.{inRange, rule1}
+use Rattle.cluster.specs.Rules.{inRange, rule1, ruleRefusal}
 use Rattle.images.specs.Image.{markSecond, headerWidth}
 use Rattle.images.specs.Read.{headerRefusal}
 use Rattle.images.proofs.read.header_refusal.Statement.{statement}
@@ -32,7 +32,7 @@ range : (z : tie.Else3) (rest : ℕ)
     (refuse (not (inRange (limitsOf (z .before .before .before .before .before .before .before .args .bytes .now)))) badConfiguration rest))
 range z rest =
     refuse-no (not (inRange (limitsOf (z .before .before .before .before .before .before .before .args .bytes .now)))) badConfiguration rest
-    (ap not (ap inRange (sym (z .before .before .limits-of .ensures)) ∙ sym (z .before .limits-in-range .ensures) ∙ not-false _ (z .if3 .left)))
+    (ap not (ap inRange (sym (z .before .before .limits-at .ensures)) ∙ sym (z .before .limits-in-range .ensures) ∙ not-false _ (z .if3 .left)))
     ∙ mark (z .before .before .before) _
 
 returns : tie.Need-returns
@@ -48,8 +48,8 @@ returns-2 c =
     refuse-yes _ _ _ (ap not (sym (c .before .is-marked .ensures) ∙ not-true _ (c .if2 .taken)))
     ∙ long (c .before .before) _
 
-limits-of-requires : tie.Need-limits-of-requires
-limits-of-requires c κs = search needs
+limits-at-requires : tie.Need-limits-at-requires
+limits-at-requires c κs = search needs
 
 limits-in-range-requires : tie.Need-limits-in-range-requires
 limits-in-range-requires c κs = search needs
@@ -57,7 +57,7 @@ limits-in-range-requires c κs = search needs
 returns-3 : tie.Need-returns-3
 unfolding headerRefusal
 returns-3 c =
-    refuse-yes _ _ _ (ap not (ap inRange (sym (c .before .before .limits-of .ensures)) ∙ sym (c .before .limits-in-range .ensures) ∙ not-true _ (c .if3 .taken)))
+    refuse-yes _ _ _ (ap not (ap inRange (sym (c .before .before .limits-at .ensures)) ∙ sym (c .before .limits-in-range .ensures) ∙ not-true _ (c .if3 .taken)))
     ∙ mark (c .before .before .before) _
 
 shared-slice-read-sizes-in-range : tie.Need-shared-slice-read-sizes-in-range
@@ -77,15 +77,15 @@ sizes : (z : tie.After-sizes-in-range)
     ≡ z .sizes-in-range .result
 sizes z =
     let bs = z .before .before .before .before .before .before .before .before .before .before .args .bytes .now in
-    ap (λ (l : Limits). rule1 l (byteAt bs 6) (byteAt bs 7)) (sym (z .before .before .before .before .before .limits-of .ensures)) ∙ sym (z .sizes-in-range .ensures)
+    ap (λ (l : Limits). rule1 l (byteAt bs 6) (byteAt bs 7)) (sym (z .before .before .before .before .before .limits-at .ensures)) ∙ sym (z .sizes-in-range .ensures)
 
 returns-4 : tie.Need-returns-4
-unfolding headerRefusal
+unfolding headerRefusal ruleRefusal
 returns-4 c = refuse-yes _ _ _ (ap not (sizes (c .before) ∙ not-true _ (c .if4 .taken))) ∙ range (c .before .before .before .before) _
 
 returns-5 : tie.Need-returns-5
 unfolding headerRefusal
-returns-5 c = refuse-no _ brokenState _ (ap not (sizes (c .before) ∙ not-false _ (c .if4 .left))) ∙ range (c .before .before .before .before) _
+returns-5 c = refuse-no _ (ruleRefusal 1) _ (ap not (sizes (c .before) ∙ not-false _ (c .if4 .left))) ∙ range (c .before .before .before .before) _
 
 pub header-refusal-spec : {M : Type 1} → statement M
 header-refusal-spec =
@@ -94,7 +94,7 @@ header-refusal-spec =
     returns
     is-marked-requires
     returns-2
-    limits-of-requires
+    limits-at-requires
     limits-in-range-requires
     returns-3
     shared-slice-read-sizes-in-range

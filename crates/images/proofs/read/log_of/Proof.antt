@@ -5,8 +5,7 @@ use lib.ListN.{drop, replicate}
 use lib.Seq.{drop-drop}
 use borrow.Author.Needs.{needs}
 use Rattle.replica.specs.Replica.{zeroRecord}
-use Rattle.images.specs.Image.{recordWidth}
-use Rattle.images.specs.Read.{recordOf}
+use Rattle.replica.specs.ReplicaBytes.{recordWidth, recordOf}
 use Rattle.images.specs.Layout.{partAt, storedBelow, recordsOf}
 use Rattle.images.specs.ReadLaws.{stored-below-more}
 use Rattle.images.proofs.read.log_of.Statement.{statement}

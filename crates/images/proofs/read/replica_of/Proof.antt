@@ -5,7 +5,7 @@ use lib.Seq.{drop-drop}
 use borrow.Author.Needs.{needs}
 use Rattle.parts.specs.Mark.{byteAt}
 use Rattle.replica.specs.declared.Replica.{Replica}
-use Rattle.images.specs.Image.{replicaWidth}
+use Rattle.replica.specs.ReplicaBytes.{headWidth}
 use Rattle.images.proofs.read.replica_of.Statement.{statement}
 use Rattle.images.proofs.read.replica_of.Tie as tie
 
@@ -27,7 +27,7 @@ log-of-requires c κs =
 returns : tie.Need-returns
 returns c =
     let a = c .before .before .before .before .args in
-    rw (c .log-of .ensures, c .before .before .replica-of-head .ensures, drop-drop replicaWidth (a .at) (a .bytes .now)) refl
+    rw (c .log-of .ensures, c .before .before .replica-of-head .ensures, drop-drop headWidth (a .at) (a .bytes .now)) refl
 
 pub replica-of-spec : {M : Type 1} → statement M
 replica-of-spec =

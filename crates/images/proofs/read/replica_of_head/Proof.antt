@@ -1,7 +1,7 @@
 use Prim.Native.Nat.{_+_}
 use borrow.Author.Needs.{needs}
 use Rattle.parts.specs.ByteLaws.{epoch-kept}
-use Rattle.images.specs.ReadLaws.{byte-at, first-byte}
+use Rattle.parts.specs.Bytes.{byte-at, first-byte}
 use Rattle.images.proofs.read.replica_of_head.Statement.{statement}
 use Rattle.images.proofs.read.replica_of_head.Tie as tie
 

@@ -4,12 +4,13 @@ use mathlib.Core.List.{List}
 use native.Mathlib.Omega.{arith}
 use lib.ListN.{drop, getD, set, replicate}
 use borrow.Author.Needs.{needs}
+use Rattle.parts.specs.Bytes.{byte-at}
 use Rattle.parts.specs.Mark.{byteAt}
 use Rattle.replica.specs.declared.Replica.{Replica}
 use Rattle.replica.specs.Replica.{zeroReplica}
 use Rattle.images.specs.Read.{readReplica}
 use Rattle.images.specs.Layout.{replicaLength, replicaWithLog}
-use Rattle.images.specs.ReadLaws.{byte-at, Filling, filling-start, filling-more, filling-refused, filling-over, filling-all, ReplicaFits, replica-fits, replica-whole}
+use Rattle.images.specs.ReadLaws.{Filling, filling-start, filling-more, filling-refused, filling-over, filling-all, ReplicaFits, replica-fits, replica-whole}
 use Rattle.images.proofs.read.replicas_refusal.Statement.{statement}
 use Rattle.images.proofs.read.replicas_refusal.Tie as tie
 

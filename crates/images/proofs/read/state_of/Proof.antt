@@ -32,8 +32,8 @@ room c = body-room (c .args .bytes .now) (header c .long) (laid c .body)
 epoch : (c : tie.Start) → byteAt (c .args .bytes .now) 6 ≤ 16
 epoch c = omega (arith, sizes c .epochs, sizes c .ranges .epochs)
 
-limits-of-requires : tie.Need-limits-of-requires
-limits-of-requires c κs = omega (arith, header (c .before) .long)
+limits-at-requires : tie.Need-limits-at-requires
+limits-at-requires c κs = omega (arith, header (c .before) .long)
 
 shared-slice-read-next : tie.Need-shared-slice-read-next
 shared-slice-read-next c = omega (arith, header (c .before .before .before) .long)
@@ -81,7 +81,7 @@ returns c =
     body-state (z .args .bytes .now) (c .before .replicas-of .result) (room z) (c .before .replicas-of .ensures)
     ∙ ap (λ (s : State). parsed s [])
     (rw (
-      c .before .before .before .before .before .before .before .before .limits-of .ensures,
+      c .before .before .before .before .before .before .before .before .limits-at .ensures,
       last-epoch-kept _ _ (omega (arith, epoch z)) (c .before .before .before .before .before .before .last-epoch .ensures),
       c .before .before .before .before .of-byte .ensures,
       c .before .before .requests-of .ensures,
@@ -91,7 +91,7 @@ pub state-of-spec : {M : Type 1} → statement M
 state-of-spec =
     tie.close
     (tie.spec
-    limits-of-requires
+    limits-at-requires
     shared-slice-read-next
     last-epoch-requires
     shared-slice-read-of-byte

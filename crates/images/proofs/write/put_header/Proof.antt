@@ -1,67 +1,23 @@
-use mathlib.Core.Path.{refl}
-use native.Mathlib.Omega.{arith}
-use lib.ListN.{length-set}
 use borrow.Author.Needs.{needs}
-use Rattle.logic.specs.Stores.{stored-length}
 use Rattle.images.proofs.write.put_header.Statement.{statement}
 use Rattle.images.proofs.write.put_header.Tie as tie
 
 byte-requires : tie.Need-byte-requires
 byte-requires c κs = search needs
 
-slice-write-out : tie.Need-slice-write-out
-slice-write-out c = search needs
+slice-aggregate-put-bytes : tie.Need-slice-aggregate-put-bytes
+slice-aggregate-put-bytes c = search needs
 
-slice-write-out-2 : tie.Need-slice-write-out-2
-slice-write-out-2 c = simp length-set (omega arith)
-
-slice-write-out-3 : tie.Need-slice-write-out-3
-slice-write-out-3 c = simp length-set (omega arith)
-
-slice-write-out-4 : tie.Need-slice-write-out-4
-slice-write-out-4 c = simp length-set (omega arith)
-
-slice-write-out-5 : tie.Need-slice-write-out-5
-slice-write-out-5 c = simp length-set (omega arith)
-
-slice-write-out-6 : tie.Need-slice-write-out-6
-slice-write-out-6 c = simp length-set (omega arith)
-
-slice-write-out-7 : tie.Need-slice-write-out-7
-slice-write-out-7 c = simp length-set (omega arith)
-
-slice-write-out-8 : tie.Need-slice-write-out-8
-slice-write-out-8 c = simp length-set (omega arith)
-
-slice-write-out-9 : tie.Need-slice-write-out-9
-slice-write-out-9 c = simp length-set (omega arith)
-
-slice-write-out-10 : tie.Need-slice-write-out-10
-slice-write-out-10 c = simp length-set (omega arith)
-
-whole : tie.Need-returns
-whole c = rw (c .byte .ensures) (record { place = refl; list = refl })
+put-bytes-requires : tie.Need-put-bytes-requires
+put-bytes-requires c κs = search needs
 
 same-length : tie.Need-same-length
-same-length c = stored-length (whole c)
+same-length c = search needs
 
 returns : tie.Need-returns
-returns c = whole c
+returns c = rw (c .before .before .before .before .before .byte .ensures) at (c .before .before .put-bytes .ensures)
 
 pub put-header-spec : {M : Type 1} → statement M
 put-header-spec =
     tie.close
-    (tie.spec
-    byte-requires
-    slice-write-out
-    slice-write-out-2
-    slice-write-out-3
-    slice-write-out-4
-    slice-write-out-5
-    slice-write-out-6
-    slice-write-out-7
-    slice-write-out-8
-    slice-write-out-9
-    slice-write-out-10
-    same-length
-    returns)
+    (tie.spec byte-requires slice-aggregate-put-bytes put-bytes-requires same-length returns)
