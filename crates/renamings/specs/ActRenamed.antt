@@ -1,6 +1,6 @@
 -- An action of any four bytes on a tidy state that meets the rules: the renamed action on the renamed state gets the same
 -- number, and the state handed back is the first one's, renamed. Assumes nothing.
-use Prim.Native.Nat.{ℕ, zero, suc}
+use Prim.Native.Nat.{ℕ}
 use mathlib.Core.Path.{_≡_, refl, sym, ap, ap₂, _∙_}
 use mathlib.Core.Bool.{Bool, true, false, not}
 use native.Mathlib.Omega.{arith}
@@ -9,15 +9,15 @@ use native.Mathlib.Decide.{decLt}
 use lib.Dec.{ltb}
 use borrow.Author.Tests.{lt-ltb, le-ltb}
 use Rattle.logic.specs.Tests.{every-cong}
-use Rattle.logic.specs.Refuse.{refuse}
+use Rattle.logic.specs.Refuse.{refuse, by-map}
+use Rattle.parts.specs.Refusal.{accepted, unknownKind, badOperand}
 use Rattle.cluster.specs.declared.State.{State}
 use Rattle.cluster.specs.declared.Action.{Action}
-use Rattle.cluster.specs.declared.Outcome.{Outcome}
+use Rattle.cluster.specs.declared.ActionAnswer.{ActionAnswer}
 use Rattle.cluster.specs.declared.Kind.{Kind}
 use Rattle.cluster.specs.declared.Kind.the-variants.{ControllerShrinkIsr, ControllerElectLeader, BecomeLeader, BecomeFollower, LeaderWrite, LeaderShrinkIsr, LeaderExpandIsr, LeaderIncHighWatermark, FollowerReplicate, Unknown}
 use Rattle.cluster.specs.State.{replicaCount}
-use Rattle.cluster.specs.Fresh.{answer}
-use Rattle.cluster.specs.Act.{kindOf, uses, operandBound, operandBounds, operandsFit, tableRefusal, tableEffect, actionRefusal, effect, answerBy, step, act}
+use Rattle.cluster.specs.Act.{lastKind, kindOf, uses, operandBound, operandBounds, operandsFit, tableRefusal, tableEffect, actionRefusal, effect, actionAnswer, refusedOn, answerBy, step, act}
 use Rattle.actions.specs.Kept.{step-is-act}
 use Rattle.renamings.specs.Renaming.{Renaming, ltb-to}
 use Rattle.renamings.specs.Rename.{renameState, renameOperand, renameAction, Met}
@@ -25,32 +25,23 @@ use Rattle.renamings.specs.ActionsRenamed.{refusal-renamed, effect-renam
 use Rattle.renamings.specs.TidyRenamed.{at-most-five, fits, met-renamed}
 
 -- ---- the table looks at the operands that a kind uses, and at no other
-module _ (s : State) (a b c d e : ℕ) where
-  table-refusal-uses : (kind : Kind) → (uses kind .a ≡ true → a ≡ c) → (uses kind .b ≡ true → b ≡ d) → tableRefusal kind s a b e ≡ tableRefusal kind s c d e
-  unfolding tableRefusal uses
-  table-refusal-uses ControllerShrinkIsr f g = rw (f refl) refl
-  table-refusal-uses ControllerElectLeader f g = rw (f refl) refl
-  table-refusal-uses BecomeLeader f g = refl
-  table-refusal-uses BecomeFollower f g = rw (f refl) refl
-  table-refusal-uses LeaderWrite f g = rw (f refl) refl
-  table-refusal-uses LeaderShrinkIsr f g = rw (f refl, g refl) refl
-  table-refusal-uses LeaderExpandIsr f g = rw (f refl, g refl) refl
-  table-refusal-uses LeaderIncHighWatermark f g = rw (f refl) refl
-  table-refusal-uses FollowerReplicate f g = rw (f refl, g refl) refl
-  table-refusal-uses Unknown f g = refl
+-- what it has for a kind: the refusal and the effect
+abbrev row : State → Kind → ℕ → ℕ → ℕ → ℕ × State
+row s kind a b e = (tableRefusal kind s a b e, tableEffect kind s a b e)
 
-  table-effect-uses : (kind : Kind) → (uses kind .a ≡ true → a ≡ c) → (uses kind .b ≡ true → b ≡ d) → tableEffect kind s a b e ≡ tableEffect kind s c d e
-  unfolding tableEffect uses
-  table-effect-uses ControllerShrinkIsr f g = rw (f refl) refl
-  table-effect-uses ControllerElectLeader f g = rw (f refl) refl
-  table-effect-uses BecomeLeader f g = refl
-  table-effect-uses BecomeFollower f g = rw (f refl) refl
-  table-effect-uses LeaderWrite f g = rw (f refl) refl
-  table-effect-uses LeaderShrinkIsr f g = rw (f refl, g refl) refl
-  table-effect-uses LeaderExpandIsr f g = rw (f refl, g refl) refl
-  table-effect-uses LeaderIncHighWatermark f g = rw (f refl) refl
-  table-effect-uses FollowerReplicate f g = rw (f refl, g refl) refl
-  table-effect-uses Unknown f g = refl
+module _ (s : State) (a b c d e : ℕ) where
+  row-uses : (kind : Kind) → (uses kind .a ≡ true → a ≡ c) → (uses kind .b ≡ true → b ≡ d) → row s kind a b e ≡ row s kind c d e
+  unfolding tableRefusal tableEffect uses
+  row-uses ControllerShrinkIsr f g = rw (f refl) refl
+  row-uses ControllerElectLeader f g = rw (f refl) refl
+  row-uses BecomeLeader f g = refl
+  row-uses BecomeFollower f g = rw (f refl) refl
+  row-uses LeaderWrite f g = rw (f refl) refl
+  row-uses LeaderShrinkIsr f g = rw (f refl, g refl) refl
+  row-uses LeaderExpandIsr f g = rw (f refl, g refl) refl
+  row-uses LeaderIncHighWatermark f g = rw (f refl) refl
+  row-uses FollowerReplicate f g = rw (f refl, g refl) refl
+  row-uses Unknown f g = refl
 
 -- ---- operands
 module _ {n : ℕ} (p : Renaming n) where
@@ -85,34 +76,37 @@ module _ (s : State) (p : Renaming (replicaCount (s .limits))) (m : Met s) (acti
       every-cong _ _ _ _ (operand-fits p (uses kind .a) (action .a))
       (every-cong _ _ _ _ (operand-fits p (uses kind .b) (action .b)) refl)
 
+  -- the row of the table under the renaming has the refusal of the row and its effect, renamed
+  row-renamed : row (ren s) kind (renameAction n (p .to) action .a) (renameAction n (p .to) action .b) (action .e)
+      ≡ (tableRefusal kind s (action .a) (action .b) (action .e), ren (tableEffect kind s (action .a) (action .b) (action .e)))
+  unfolding renameAction
+  row-renamed =
+      row-uses (ren s) _ _ (p .to (action .a)) (p .to (action .b)) (action .e) kind
+      (operand-used p (uses kind .a) (action .a)) (operand-used p (uses kind .b) (action .b))
+      ∙ ap₂ (λ (k : ℕ) (t : State). (k, t))
+      (refusal-renamed s p (at-most-five s m) (fits s m .five) kind (action .a) (action .b) (action .e))
+      (effect-renamed s p (at-most-five s m) (fits s m .five) kind (action .a) (action .b) (action .e))
+
   number-renamed : actionRefusal (ren s) (renameAction n (p .to) action) ≡ actionRefusal s action
   unfolding actionRefusal renameAction
   number-renamed =
-      ap₂ (λ (t : Bool) (k : ℕ). refuse (ltb 8 (action .kind)) 2 (refuse (not t) 3 k)) operands-fit-renamed
-      (table-refusal-uses (ren s) _ _ (p .to (action .a)) (p .to (action .b)) (action .e) kind
-      (operand-used p (uses kind .a) (action .a)) (operand-used p (uses kind .b) (action .b))
-      ∙ refusal-renamed s p (at-most-five s m) (fits s m .five) kind (action .a) (action .b) (action .e))
+      ap₂ (λ (t : Bool) (r : ℕ × State). refuse (ltb lastKind (action .kind)) unknownKind (refuse (not t) badOperand (r .0)))
+      operands-fit-renamed row-renamed
 
   next-renamed : effect (ren s) (renameAction n (p .to) action) ≡ ren (effect s action)
   unfolding effect renameAction
-  next-renamed =
-      table-effect-uses (ren s) _ _ (p .to (action .a)) (p .to (action .b)) (action .e) kind
-      (operand-used p (uses kind .a) (action .a)) (operand-used p (uses kind .b) (action .b))
-      ∙ effect-renamed s p (at-most-five s m) (fits s m .five) kind (action .a) (action .b) (action .e)
+  next-renamed = ap (λ (r : ℕ × State). r .1) row-renamed
 
-  answer-renamed : (k : ℕ) (next : State) → answerBy k (ren s) (ren next) ≡ answer (answerBy k s next .refusal) (ren (answerBy k s next .state))
-  unfolding answerBy
-  answer-renamed zero next = refl
-  answer-renamed (suc k) next = refl
-
-  pub step-renamed : step (ren s) (renameAction n (p .to) action) ≡ answer (step s action .refusal) (ren (step s action .state))
-  unfolding step
+  -- an answer under the renaming: the same number, and its state renamed
+  pub step-renamed : step (ren s) (renameAction n (p .to) action) ≡ actionAnswer (step s action .refusal) (ren (step s action .state))
+  unfolding step answerBy
   step-renamed =
-      ap₂ (λ (k : ℕ) (t : State). answerBy k (ren s) t) number-renamed next-renamed ∙ answer-renamed (actionRefusal s action) (effect s action)
+      ap₂ (λ (k : ℕ) (t : State). answerBy k (ren s) t) number-renamed next-renamed
+      ∙ sym (by-map (λ (o : ActionAnswer). actionAnswer (o .refusal) (ren (o .state))) (actionRefusal s action) (refusedOn s) (actionAnswer accepted (effect s action)))
 
-  pub act-renamed : act (ren s) (renameAction n (p .to) action) ≡ answer (act s action .refusal) (ren (act s action .state))
+  pub act-renamed : act (ren s) (renameAction n (p .to) action) ≡ actionAnswer (act s action .refusal) (ren (act s action .state))
   act-renamed =
       let r = met-renamed s m p in
       sym (step-is-act (ren s) (renameAction n (p .to) action) (r .rules) (r .tidy))
       ∙ step-renamed
-      ∙ ap (λ (o : Outcome). answer (o .refusal) (ren (o .state))) (step-is-act s action (m .rules) (m .tidy))
+      ∙ ap (λ (o : ActionAnswer). actionAnswer (o .refusal) (ren (o .state))) (step-is-act s action (m .rules) (m .tidy))

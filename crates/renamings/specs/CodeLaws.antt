@@ -3,14 +3,14 @@
 use Prim.Native.Nat.{ℕ, zero, suc, _+_, _*_, _^_, _/_, _%_, _≤_, _<_}
 use mathlib.Core.Path.{_≡_, refl, sym, ap, ap₂, _∙_, fun-ext}
 use mathlib.Core.Bool.{Bool, true, false, not, _&&_}
-use mathlib.Core.List.{List, [], _∷_, map}
+use mathlib.Core.List.{List, [], _∷_, _++_, map}
 use native.Mathlib.Numerals.{add-one}
 use native.Mathlib.Omega.{arith}
 use native.Mathlib.Nat.{mod-lt}
 use lib.Dec.{eqb, ltb}
 use borrow.Author.Tests.{lt-ltb, le-ltb, eq-eqb, ne-eqb, eqb-true, ltb-true}
 use lib.ListN.{length, getD, set, length-set}
-use Rattle.logic.specs.Tests.{allBelow, all-at, and-left, and-right}
+use Rattle.logic.specs.Tests.{allBelow, all-at, every, and-left, and-right}
 use Rattle.logic.specs.Concat.{concatBelow}
 use Rattle.logic.specs.Maps.{map-table}
 use Rattle.logic.specs.Table.{table, tableFrom, length-table, getD-table, ext-table, table-cong}
@@ -19,14 +19,13 @@ use Rattle.parts.specs.Isr.{member, bit, isrOf}
 use Rattle.parts.specs.IsrLaws.{below-five, isrOf-cong, member-bit, member-rest}
 use Rattle.cluster.specs.declared.Request.{Request}
 use Rattle.cluster.specs.declared.State.{State}
-use Rattle.logic.specs.Refuse.{refuse-yes, refuse-no, refuse-none}
-use Rattle.parts.specs.Refusal.{accepted, brokenState, notRenaming}
+use Rattle.logic.specs.Refuse.{refuse-yes, refuse-none, first-yes, first-no, first-none, byRefusal, by-accepted, by-refused, by-number, by-other, listed, listed-refuse, listed-first, listed-within}
+use Rattle.parts.specs.Refusal.{accepted, notRenaming}
 use Rattle.cluster.specs.State.{replicaCount, nextLeaderEpoch, nextRecordId, zeroRequest, requestIn, stateOf}
-use Rattle.cluster.specs.Rules.{rules, stateRefusal}
-use Rattle.cluster.specs.RuleLaws.{refusal-broken, rules-bounded}
-use Rattle.cluster.specs.Fresh.{answer}
-use Rattle.cluster.specs.Act.{answerBy}
-use Rattle.cluster.specs.ActLaws.{answer-zero, answer-other}
+use Rattle.cluster.specs.declared.Outcome.{Outcome}
+use Rattle.cluster.specs.Rules.{rules, stateRefusal, stateNumbers}
+use Rattle.cluster.specs.RuleLaws.{met-refusal, rules-bounded, state-listed}
+use Rattle.cluster.specs.Outcome.{answer, asGiven}
 use Rattle.cluster.specs.Equality.{state-path}
 use Rattle.renamings.specs.Names.{newName, holder, oldName, inverted, nameIn, Inward, inPlace, isRenaming, withoutPlace, orders, rows, row, tableNumbers}
 use Rattle.renamings.specs.Rename.{renameLeader, renameIsr, renamedRequestAt, renameQuorum, renameRequest, renameReplicas, renameState, renamed, Renames, renameRefusal, rename}
@@ -240,22 +239,47 @@ pub state-by : (p : List ℕ) (s : State) → length (s .requests) ≡ 16
     ≡ renameState (newName p) (oldName p) s
 state-by p s l = state-path refl refl refl refl (requests-by (newName p) (oldName p) (s .requests) l) refl
 
--- ---- what renaming answers
-pub rename-broken : (s : State) (p : List ℕ) → (stateRefusal s ≡ accepted → ⊥) → answer (stateRefusal s) s ≡ rename s p
-unfolding rename renameRefusal
-rename-broken s p h =
-    let r = refusal-broken s h in
-    rw (r .1) (answer-other brokenState s (renamed p s) (λ e. omega arith)
-    ∙ ap (λ (k : ℕ). answerBy k s (renamed p s)) (refuse-yes (not (rules s)) brokenState _ (ap not (r .0))))
+-- ---- what renaming answers, by its refusal
+module _ (s : State) (p : List ℕ) where
+  rename-refused : (n : ℕ) → (n ≡ accepted → ⊥) → n ≡ renameRefusal s p → answer n s ≡ rename s p
+  unfolding rename
+  rename-refused n h e =
+      by-refused n (asGiven s) (answer accepted (renamed p s)) h
+      ∙ ap (λ (k : ℕ). byRefusal k (asGiven s) (answer accepted (renamed p s))) e
 
-pub rename-unfit : (s : State) (p : List ℕ) → rules s ≡ true → isRenaming (replicaCount (s .limits)) p ≡ false → answer notRenaming s ≡ rename s p
-unfolding rename renameRefusal
-rename-unfit s p h f =
-    answer-other notRenaming s (renamed p s) (λ e. omega arith)
-    ∙ ap (λ (k : ℕ). answerBy k s (renamed p s))
-    (refuse-yes (not (isRenaming (replicaCount (s .limits)) p)) notRenaming accepted (ap not f) ∙ refuse-no (not (rules s)) brokenState _ (ap not h))
+  pub rename-broken : (stateRefusal s ≡ accepted → ⊥) → answer (stateRefusal s) s ≡ rename s p
+  unfolding renameRefusal
+  rename-broken h = rename-refused (stateRefusal s) h (first-yes (stateRefusal s) _ h)
 
-pub rename-fits : (s : State) (p : List ℕ) → rules s ≡ true → Renames s p → answer accepted (renamed p s) ≡ rename s p
-unfolding rename renameRefusal
-rename-fits s p h f =
-    answer-zero _ s (renamed p s) (refuse-none (not (rules s)) _ _ (ap not h) (refuse-none (not (isRenaming (replicaCount (s .limits)) p)) _ _ (ap not f) refl))
+  module _ (h : rules s ≡ true) where
+    pub rename-unfit : isRenaming (replicaCount (s .limits)) p ≡ false → answer notRenaming s ≡ rename s p
+    unfolding renameRefusal
+    rename-unfit f =
+        rename-refused notRenaming (λ e. omega arith)
+        (refuse-yes (not (isRenaming (replicaCount (s .limits)) p)) notRenaming accepted (ap not f)
+        ∙ first-no (stateRefusal s) _ (met-refusal s h))
+
+    pub rename-fits : Renames s p → answer accepted (renamed p s) ≡ rename s p
+    unfolding rename renameRefusal
+    rename-fits f =
+        by-accepted _ (asGiven s) (answer accepted (renamed p s))
+        (first-none (stateRefusal s) _ (met-refusal s h) (refuse-none (not (isRenaming (replicaCount (s .limits)) p)) _ _ (ap not f) refl))
+
+-- a refused renaming gives back the given state
+pub rename-given : (s : State) (p : List ℕ) → (rename s p .refusal ≡ accepted → ⊥) → rename s p .state ≡ s
+unfolding rename
+rename-given s p h =
+    ap (λ (o : Outcome). o .state) (by-other (λ (o : Outcome). o .refusal) (renameRefusal s p) (asGiven s) (answer accepted (renamed p s)) refl h)
+
+-- the numbers that it may give beside 0: "27 (after 1)"
+abbrev pub renameNumbers : List ℕ
+renameNumbers = stateNumbers ++ notRenaming ∷ []
+
+pub rename-listed : (s : State) (p : List ℕ) → listed (accepted ∷ renameNumbers) (rename s p .refusal) ≡ true
+unfolding rename renameRefusal listed every
+rename-listed s p =
+    let all : List ℕ = accepted ∷ renameNumbers in
+    ap (listed all) (by-number (λ (o : Outcome). o .refusal) (renameRefusal s p) (asGiven s) (answer accepted (renamed p s)) (λ k. refl) refl)
+    ∙ listed-first all (stateRefusal s) _
+    (listed-within (accepted ∷ stateNumbers) all (stateRefusal s) refl (state-listed s))
+    (listed-refuse all (not (isRenaming (replicaCount (s .limits)) p)) notRenaming accepted refl refl)

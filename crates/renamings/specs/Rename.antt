@@ -7,10 +7,10 @@ use mathlib.Core.Bool.{Bool, true, not, _&&_, cond}
 use mathlib.Core.List.{List, map}
 use lib.Dec.{ltb}
 use Rattle.logic.specs.Table.{table}
-use Rattle.logic.specs.Refuse.{refuse}
+use Rattle.logic.specs.Refuse.{refuse, firstRefusal, byRefusal}
 use Rattle.parts.specs.declared.Leader.{Leader}
 use Rattle.parts.specs.declared.Leader.the-variants.{None, Broker}
-use Rattle.parts.specs.Refusal.{accepted, brokenState, notRenaming}
+use Rattle.parts.specs.Refusal.{accepted, notRenaming}
 use Rattle.parts.specs.Isr.{member, isrOf}
 use Rattle.replica.specs.declared.Replica.{Replica}
 use Rattle.replica.specs.Replica.{replicaOf}
@@ -20,8 +20,9 @@ use Rattle.cluster.specs.declared.State.{State}
 use Rattle.cluster.specs.declared.Action.{Action}
 use Rattle.cluster.specs.declared.Outcome.{Outcome}
 use Rattle.cluster.specs.State.{replicaCount, nextLeaderEpoch, nextRecordId, requestIn, replicaIn, stateOf, tidy}
-use Rattle.cluster.specs.Rules.{rules}
-use Rattle.cluster.specs.Act.{kindOf, actionOf, uses, answerBy}
+use Rattle.cluster.specs.Outcome.{answer, asGiven}
+use Rattle.cluster.specs.Rules.{rules, stateRefusal}
+use Rattle.cluster.specs.Act.{kindOf, actionOf, uses}
 use Rattle.renamings.specs.Names.{newName, oldName, isRenaming}
 
 -- ---- the parts of a state
@@ -91,10 +92,10 @@ pub record Met (s : State) : Type 0 where
 -- "else 27 (after 1)"
 unfoldable pub renameRefusal : State → List ℕ → ℕ
 renameRefusal s p =
-    refuse (not (rules s)) brokenState
+    firstRefusal (stateRefusal s)
     (refuse (not (isRenaming (replicaCount (s .limits)) p)) notRenaming
     accepted)
 
 -- what renaming answers: accepted, the state under p; refused, the number and the state as given
 unfoldable pub rename : State → List ℕ → Outcome
-rename s p = answerBy (renameRefusal s p) s (renamed p s)
+rename s p = byRefusal (renameRefusal s p) (asGiven s) (answer accepted (renamed p s))

@@ -8,12 +8,11 @@ use mathlib.Core.Logic.{_↔_}
 use Rattle.parts.specs.Isr.{member}
 use Rattle.cluster.specs.declared.State.{State}
 use Rattle.cluster.specs.declared.Action.{Action}
-use Rattle.cluster.specs.declared.Outcome.{Outcome}
+use Rattle.cluster.specs.declared.ActionAnswer.{ActionAnswer}
 use Rattle.cluster.specs.State.{nextLeaderEpoch, nextRecordId, requestAt, replicaCount, replicaAt, Same, tidy}
 use Rattle.cluster.specs.Rules.{rules}
-use Rattle.cluster.specs.Fresh.{answer}
 use Rattle.cluster.specs.Equality.{same-sym, same-iff-tidy, tidy-same}
-use Rattle.cluster.specs.Act.{act}
+use Rattle.cluster.specs.Act.{actionAnswer, act}
 use Rattle.actions.specs.Kept.{step-kept, step-is-act}
 use Rattle.actions.specs.Answers.{act-same}
 use Rattle.questions.specs.declared.Property.{Property}
@@ -103,19 +102,19 @@ module _ (s : State) (h : rules s ≡ true) (p : List ℕ) (f : Renames s p) whe
   -- an action of any four bytes: the renamed action on the renamed state gets the same number, and the state handed back is
   -- the first one's, renamed
   pub renamed-act : (action : Action)
-      → act (renamed p s) (renameAction (replicaCount (s .limits)) (newName p) action) ≡ answer (act s action .refusal) (renamed p (act s action .state))
+      → act (renamed p s) (renameAction (replicaCount (s .limits)) (newName p) action) ≡ actionAnswer (act s action .refusal) (renamed p (act s action .state))
   unfolding renamed
   renamed-act action =
       let equal = act-same s (tidy s) (same-sym (tidy s) s (tidy-same s)) action in
       let state : tidy (act s action .state) ≡ act (tidy s) action .state =
       same-iff-tidy (act s action .state) (act (tidy s) action .state) .0 (equal .1)
-      ∙ subst (λ (o : Outcome). tidy (o .state) ≡ o .state) (step-is-act (tidy s) action (met .rules) (met .tidy))
+      ∙ subst (λ (o : ActionAnswer). tidy (o .state) ≡ o .state) (step-is-act (tidy s) action (met .rules) (met .tidy))
       (step-kept (tidy s) action (met .rules) (met .tidy) .tidy) in
       let here : act (renameState (newName p) (oldName p) (tidy s)) (renameAction (replicaCount (s .limits)) (newName p) action)
-      ≡ answer (act (tidy s) action .refusal) (renameState (newName p) (oldName p) (act (tidy s) action .state)) =
+      ≡ actionAnswer (act (tidy s) action .refusal) (renameState (newName p) (oldName p) (act (tidy s) action .state)) =
       unfold tidy in act-renamed (tidy s) on met action in
       here
-      ∙ ap₂ (λ (k : ℕ) (t : State). answer k (renameState (newName p) (oldName p) t)) (sym (equal .0)) (sym state)
+      ∙ ap₂ (λ (k : ℕ) (t : State). actionAnswer k (renameState (newName p) (oldName p) t)) (sym (equal .0)) (sym state)
 
   -- weak and strong ISR hold of both states or of neither
   pub renamed-holds : (property : Property) → askIsr property (renamed p s) .holds ≡ askIsr property s .holds

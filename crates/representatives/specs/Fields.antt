@@ -15,6 +15,7 @@ use Rattle.parts.specs.Leader.{leaderByte}
 use Rattle.replica.specs.declared.Record.{Record}
 use Rattle.replica.specs.declared.Replica.{Replica}
 use Rattle.replica.specs.Replica.{recordAt}
+use Rattle.replica.specs.ReplicaBytes.{recordBytesAt}
 use Rattle.cluster.specs.declared.Request.{Request}
 use Rattle.cluster.specs.declared.State.{State}
 use Rattle.cluster.specs.State.{replicaCount, nextLeaderEpoch, requestIn, replicaIn, requestAt, replicaAt, tidy}
@@ -22,7 +23,7 @@ use Rattle.cluster.specs.Rules.{rules}
 use Rattle.cluster.specs.RuleLaws.{rules-bounded}
 use Rattle.cluster.specs.Equality.{tidy-same}
 use Rattle.cluster.specs.Unused.{rules-tidy}
-use Rattle.images.specs.Image.{recordBytesAt, logBytes, requestBytesAt, requestsBytes, replicaHead, replicaBytes, replicaBytesAt, replicasBytes, headerBytes, image}
+use Rattle.images.specs.Image.{logBytes, requestBytesAt, requestsBytes, replicaHead, replicaBytes, replicaBytesAt, replicasBytes, headerBytes, image}
 use Rattle.images.specs.ImageTheorems.{image-iff}
 use Rattle.renamings.specs.Names.{newName, oldName}
 use Rattle.renamings.specs.Rename.{renameLeader, renameIsr, renameReplica, renameState, renamed, Renames}

@@ -1,15 +1,15 @@
 -- The representative of a state: "the state under the renaming with the least image, bytes compared from the front". Assumes
 -- nothing.
 use Prim.Native.Nat.{ℕ}
-use mathlib.Core.Bool.{cond}
 use mathlib.Core.List.{List}
+use Rattle.logic.specs.Refuse.{byRefusal}
 use Rattle.logic.specs.Least.{leastFrom}
-use Rattle.parts.specs.Refusal.{accepted, brokenState}
+use Rattle.parts.specs.Refusal.{accepted}
 use Rattle.cluster.specs.declared.State.{State}
 use Rattle.cluster.specs.declared.Outcome.{Outcome}
 use Rattle.cluster.specs.State.{replicaCount}
-use Rattle.cluster.specs.Rules.{rules}
-use Rattle.cluster.specs.Fresh.{answer}
+use Rattle.cluster.specs.Outcome.{answer, asGiven}
+use Rattle.cluster.specs.Rules.{stateRefusal}
 use Rattle.images.specs.Image.{image}
 use Rattle.renamings.specs.Names.{isRenaming, rows, row}
 use Rattle.renamings.specs.Rename.{renamed}
@@ -28,4 +28,4 @@ representative s = renamed (leastRenaming s) s
 
 -- what asking for the representative answers: "1 and the state as given", or the representative
 unfoldable pub represent : State → Outcome
-represent s = cond (rules s) (answer accepted (representative s)) (answer brokenState s)
+represent s = byRefusal (stateRefusal s) (asGiven s) (answer accepted (representative s))
