@@ -50,12 +50,12 @@ fn image(s: State) -> bool {
 
 // The seven lines.
 pub(crate) fn verdict(v: Verdict) -> bool {
-    line(b"accepted", v.accepted)
+    line(b"accepted", v.tally.accepted)
         && line(b"refusal", v.refusal as usize)
         && line(b"at", v.at)
-        && line(b"weak", v.weak)
-        && line(b"strong", v.strong)
-        && line(b"exposed", v.exposed as usize)
+        && line(b"weak", v.tally.weak)
+        && line(b"strong", v.tally.strong)
+        && line(b"exposed", v.tally.exposed as usize)
         && io::write_all(STDOUT_FILENO, b"state ")
         && image(v.state)
         && io::write_all(STDOUT_FILENO, b"\n")

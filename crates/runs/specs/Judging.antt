@@ -1,14 +1,11 @@
--- The verdict so far, as a run is judged record by record, and the laws that it becomes the verdict of the whole run.
--- Assumes nothing.
+-- What is counted as a run is judged record by record, and the laws that it becomes the verdict of the whole run. Assumes nothing.
 use Prim.Native.Nat.{ℕ, zero, suc, _+_, _≤_, _<_, max}
 use mathlib.Core.Path.{_≡_, refl, sym, ap, ap₂, _∙_}
-use mathlib.Core.Bool.{Bool, true, false, cond}
-use mathlib.Core.List.{List, _∷_, map}
-use native.Mathlib.Nat.{add-zero, zero-add}
-use native.Mathlib.Numerals.{add-one}
+use mathlib.Core.Bool.{Bool, true, false}
+use mathlib.Core.List.{List, [], _∷_, _++_, map, map-append, foldl, append-nil}
 use native.Mathlib.Omega.{arith}
-use lib.ListN.{length, take, drop, length-drop}
-use lib.Seq.{length-take-le, drop-drop}
+use lib.ListN.{length, take, drop, length-append, length-drop, length-map}
+use lib.Seq.{length-take-le, drop-drop, append-snoc}
 use Rattle.logic.specs.Tests.{firstFailing}
 use Rattle.logic.specs.Greatest.{greatestOf}
 use Rattle.logic.specs.Pieces.{pieces, pieces-none, pieces-more}
@@ -17,83 +14,112 @@ use Rattle.cluster.specs.declared.State.{State}
 use Rattle.cluster.specs.declared.Action.{Action}
 use Rattle.cluster.specs.State.{tidy}
 use Rattle.cluster.specs.Rules.{rules}
-use Rattle.cluster.specs.Act.{actionRefusal, effect}
+use Rattle.cluster.specs.Act.{actionRefusal, actionAnswer, effect}
 use Rattle.questions.specs.declared.Property.the-variants.{WeakIsr, StrongIsr}
 use Rattle.questions.specs.Exposed.{exposed}
 use Rattle.questions.specs.Doubt.{ReadsWithin, holdsAfterAction, exposesMore}
 use Rattle.questions.specs.DoubtTheorems.{reads-within, holds-after, exposes-no-more}
+use Rattle.runs.specs.declared.Tally.{Tally}
 use Rattle.runs.specs.declared.Verdict.{Verdict}
-use Rattle.runs.specs.declared.judging.Progress.{Progress}
-use Rattle.runs.specs.Run.{recordWidth, actOn, recordsOf, Trace, stopped, acceptedThen, traceBy, traceFrom, verdictOf, lastOf, weakHolds, strongHolds, verdictFrom}
+use Rattle.runs.specs.Run.{configurationWidth, recordWidth, actionIn, actOn, recordsOf, Step, stepOn, handedBack, statesIn, Trace, traceBy, traceFrom, weakHolds, strongHolds, tallyOf, lastOf, verdictFrom}
+use Rattle.runs.specs.TraceLaws.{trace-accepted, trace-refused}
 
--- ---- the verdict so far
--- before the first action: the fresh state s
-abbrev pub begun : State → Verdict
-begun s = verdictOf 0 accepted recordWidth 0 0 (exposed s) s
+-- ---- one accepted step more
+-- the count at which a property first failed: the one that is known; otherwise this one, where the property does not hold
+unfoldable pub failedAt : (known : ℕ) (holds : Bool) (count : ℕ) → ℕ
+failedAt zero true count = 0
+failedAt zero false count = count
+failedAt (suc known) holds count = suc known
 
--- stopped by this number
-abbrev pub refusedBy : Verdict → ℕ → Verdict
-refusedBy v number = verdictOf (v .accepted) number (v .at) (v .weak) (v .strong) (v .exposed) (v .state)
+-- what one step more makes of what is counted
+abbrev pub tallyAfter : Tally → Step → Tally
+tallyAfter tally step =
+    let next : State = handedBack step in
+    let count : ℕ = tally .accepted + 1 in
+    record {
+      accepted = count;
+      weak = failedAt (tally .weak) (weakHolds next) count;
+      strong = failedAt (tally .strong) (strongHolds next) count;
+      exposed = max (tally .exposed) (exposed next);
+    }
 
--- the count at which a property first failed: the one that is known, and otherwise the one that is found now
-unfoldable pub known : ℕ → ℕ → ℕ
-known zero found = found
-known (suc count) found = suc count
+-- the step of an accepted action that hands back a state
+abbrev pub acceptedStep : Action → State → Step
+acceptedStep action next = record { action = action; answer = actionAnswer accepted next }
 
-abbrev pub failedAt : ℕ → Bool → ℕ → ℕ
-failedAt before holds count = known before (cond holds 0 count)
+pub step-accepted : (s : State) (bytes : List ℕ) → actOn s bytes .refusal ≡ accepted
+    → acceptedStep (actionIn bytes) (actOn s bytes .state) ≡ stepOn s bytes
+step-accepted s bytes ok = ap (λ (n : ℕ). record { action = actionIn bytes; answer = actionAnswer n (actOn s bytes .state) }) (sym ok)
 
--- one accepted action more, which handed back s
-abbrev pub after : Verdict → State → Verdict
-after v s =
-    verdictOf (v .accepted + 1) accepted (v .at + recordWidth)
-    (failedAt (v .weak) (weakHolds s) (v .accepted + 1))
-    (failedAt (v .strong) (strongHolds s) (v .accepted + 1))
-    (max (v .exposed) (exposed s)) s
+-- ---- it is the tally of the steps so far
+-- what one step more makes of the first failure, and of the greatest
+failing-more : (k : ℕ) (bs : List Bool) (b : Bool)
+    → firstFailing (suc k) (bs ++ b ∷ []) ≡ failedAt (firstFailing (suc k) bs) b (suc k + length bs)
+unfolding firstFailing failedAt
+failing-more k [] true = refl
+failing-more k [] false = omega arith
+failing-more k (true ∷ bs) b = failing-more (suc k) bs b ∙ ap (failedAt (firstFailing (suc (suc k)) bs) b) (omega arith)
+failing-more k (false ∷ bs) b = refl
 
--- ---- what the loop holds: the state, and apart from it the numbers
-abbrev pub progressOf : ℕ → ℕ → ℕ → ℕ → ℕ → Progress
-progressOf count at weak strong greatest = record { accepted = count; at = at; weak = weak; strong = strong; exposed = greatest }
+pub greatest-one : (n : ℕ) → greatestOf (n ∷ []) ≡ n
+unfolding greatestOf
+greatest-one n = omega arith
 
--- the two together are the verdict so far
-abbrev pub soFar : Progress → State → Verdict
-soFar p s = verdictOf (p .accepted) accepted (p .at) (p .weak) (p .strong) (p .exposed) s
+greatest-more : (l : List ℕ) (n : ℕ) → greatestOf (l ++ n ∷ []) ≡ max (greatestOf l) n
+unfolding greatestOf
+greatest-more [] n = omega arith
+greatest-more (k ∷ l) n = omega (arith, greatest-more l n)
 
--- one accepted action more, which handed back s
-abbrev pub counted : Progress → State → Progress
-counted p s =
-    progressOf (p .accepted + 1) (p .at + recordWidth)
-    (failedAt (p .weak) (weakHolds s) (p .accepted + 1))
-    (failedAt (p .strong) (strongHolds s) (p .accepted + 1))
-    (max (p .exposed) (exposed s))
+-- what is mapped, with one more
+map-more : {B : Type 0} (f : State → B) (steps : List Step) (step : Step)
+    → map f (statesIn (steps ++ step ∷ [])) ≡ map f (statesIn steps) ++ f (handedBack step) ∷ []
+map-more f steps step = ap (map f) (map-append handedBack steps (step ∷ [])) ∙ map-append f (statesIn steps) (handedBack step ∷ [])
 
--- the verdict so far, whatever the state before
-pub counted-so-far : (p : Progress) (s t : State) → soFar (counted p s) s ≡ after (soFar p t) s
-counted-so-far p s t = refl
+-- the count at which a property first failed
+module _ (holds : State → Bool) (steps : List Step) (step : Step) where
+  failed-more : firstFailing 1 (map holds (statesIn (steps ++ step ∷ [])))
+      ≡ failedAt (firstFailing 1 (map holds (statesIn steps))) (holds (handedBack step)) (length steps + 1)
+  failed-more =
+      ap (firstFailing 1) (map-more holds steps step)
+      ∙ failing-more 0 (map holds (statesIn steps)) (holds (handedBack step))
+      ∙ ap (failedAt (firstFailing 1 (map holds (statesIn steps))) (holds (handedBack step)))
+      (omega (arith, length-map (statesIn steps) holds, length-map steps handedBack))
+
+-- so one step more is counted by `tallyAfter`
+pub tally-more : (first : State) (steps : List Step) (step : Step) → tallyOf first (steps ++ step ∷ []) ≡ tallyAfter (tallyOf first steps) step
+tally-more first steps step =
+    rw (
+      length-append steps (step ∷ []),
+      failed-more weakHolds steps step,
+      failed-more strongHolds steps step,
+      map-more exposed steps step,
+      greatest-more (map exposed (first ∷ statesIn steps)) (exposed (handedBack step)),
+    )
 
 -- ---- what the loop knows of its state, so that after an action it asks only about what that leaves in doubt
 -- weak = 0 means that weak ISR holds of the state, the same for strong ISR; and the state exposes no more than was seen
-pub record KnownOfState (p : Progress) (s : State) : Type 0 where
-  pub weak : p .weak ≡ 0 → weakHolds s ≡ true
-  pub strong : p .strong ≡ 0 → strongHolds s ≡ true
-  pub exposed : exposed s ≤ p .exposed
+pub record KnownOfState (tally : Tally) (s : State) : Type 0 where
+  pub weak : tally .weak ≡ 0 → weakHolds s ≡ true
+  pub strong : tally .strong ≡ 0 → strongHolds s ≡ true
+  pub exposed : exposed s ≤ tally .exposed
 
 -- so, of the state `next` that an action led to, by the quorum's ISR before the action: what the narrow test reads is there, it decides
 -- weak and strong ISR where they have not failed, and a kind that cannot expose more does not
-pub record Narrowed (p : Progress) (quorumBefore : ℕ) (next : State) (action : Action) : Type 0 where
+pub record Narrowed (tally : Tally) (quorumBefore : ℕ) (next : State) (action : Action) : Type 0 where
   pub within : ReadsWithin next action
-  pub weak : p .weak ≡ 0 → weakHolds next ≡ holdsAfterAction WeakIsr quorumBefore next action
-  pub strong : p .strong ≡ 0 → strongHolds next ≡ holdsAfterAction StrongIsr quorumBefore next action
-  pub exposed : exposesMore (action .kind) ≡ false → exposed next ≤ p .exposed
+  pub weak : tally .weak ≡ 0 → weakHolds next ≡ holdsAfterAction WeakIsr quorumBefore next action
+  pub strong : tally .strong ≡ 0 → strongHolds next ≡ holdsAfterAction StrongIsr quorumBefore next action
+  pub exposed : exposesMore (action .kind) ≡ false → exposed next ≤ tally .exposed
 
 -- it begins so
-pub known-begun : (s : State) → weakHolds s ≡ true → strongHolds s ≡ true → KnownOfState (progressOf 0 recordWidth 0 0 (exposed s)) s
+pub known-begun : (s : State) → weakHolds s ≡ true → strongHolds s ≡ true → KnownOfState (tallyOf s []) s
+unfolding greatestOf
 known-begun s weak strong = record { weak = λ e. weak; strong = λ e. strong; exposed = omega arith }
 
 -- what is known of a state gives that of the next
-pub narrowed : (p : Progress) (s : State) (action : Action) → KnownOfState p s → rules s ≡ true → tidy s ≡ s → actionRefusal s action ≡ accepted
-    → Narrowed p (s .quorum .isr) (effect s action) action
-narrowed p s action k h t ok =
+pub narrowed : (tally : Tally) (s : State) (action : Action) → KnownOfState tally s → rules s ≡ true → tidy s ≡ s
+    → actionRefusal s action ≡ accepted → Narrowed tally (s .quorum .isr) (effect s action) action
+narrowed tally s action k h t ok =
     record {
       within = reads-within s action h t ok;
       weak = λ e. holds-after s action h t ok WeakIsr (k .weak e);
@@ -103,129 +129,104 @@ narrowed p s action k h t ok =
 
 -- a property that has not failed holds
 failed-not : (before : ℕ) (holds : Bool) (count : ℕ) → failedAt before holds (count + 1) ≡ 0 → holds ≡ true
-unfolding known
+unfolding failedAt
 failed-not zero true count h = refl
 failed-not zero false count h = absurd (omega arith)
 failed-not (suc before) holds count h = absurd (omega arith)
 
 -- and what was counted gives what is known of it
-pub known-after : (p : Progress) (s : State) → KnownOfState (counted p s) s
-known-after p s =
+pub known-after : (tally : Tally) (step : Step) → KnownOfState (tallyAfter tally step) (handedBack step)
+known-after tally step =
     record {
-      weak = failed-not (p .weak) (weakHolds s) (p .accepted);
-      strong = failed-not (p .strong) (strongHolds s) (p .accepted);
+      weak = failed-not (tally .weak) (weakHolds (handedBack step)) (tally .accepted);
+      strong = failed-not (tally .strong) (strongHolds (handedBack step)) (tally .accepted);
       exposed = omega arith;
     }
 
--- ---- the verdict so far and what follows
--- the verdict of a run that has come to v, and goes on with this trace
-abbrev pub resumed : Verdict → Trace → Verdict
-resumed v trace =
-    verdictOf (v .accepted + length (trace .states)) (trace .refusal) (trace .at)
-    (known (v .weak) (firstFailing (v .accepted + 1) (map weakHolds (trace .states))))
-    (known (v .strong) (firstFailing (v .accepted + 1) (map strongHolds (trace .states))))
-    (max (v .exposed) (greatestOf (map exposed (trace .states))))
-    (lastOf (v .state) (trace .states))
-
--- equal numbers make equal verdicts
-verdict-cong : {a b w x y z e f : ℕ} (number at : ℕ) (s : State) → a ≡ b → w ≡ x → y ≡ z → e ≡ f
-    → verdictOf a number at w y e s ≡ verdictOf b number at x z f s
-verdict-cong number at s p q r t = rw (p, q, r, t)
-
 -- a failure that is known stays; where none is, the state decides
-pub failed-before : (before : ℕ) (holds : Bool) (count : ℕ) → (before ≡ 0 → ⊥) → before ≡ failedAt before holds count
-unfolding known
-failed-before zero holds count h = absurd (h refl)
-failed-before (suc before) holds count h = refl
+module _ (known : ℕ) (holds : Bool) (count : ℕ) where
+  pub failed-before : (known ≡ 0 → ⊥) → known ≡ failedAt known holds count
+  unfolding failedAt
+  failed-before h = go known h
+    where
+      go : (k : ℕ) → (k ≡ 0 → ⊥) → k ≡ failedAt k holds count
+      go zero f = absurd (f refl)
+      go (suc k) f = refl
 
-pub failed-now : (before : ℕ) (holds : Bool) (count : ℕ) → before ≡ 0 → cond holds 0 count ≡ failedAt before holds count
-unfolding known
-failed-now before holds count h = rw h
+  pub failed-never : known ≡ 0 → holds ≡ true → 0 ≡ failedAt known holds count
+  unfolding failedAt
+  failed-never h e = rw (h, e)
 
--- from the first action on it is the verdict of the run
-resumed-begun : (s : State) (trace : Trace) → verdictFrom s trace ≡ resumed (begun s) trace
-unfolding known greatestOf
-resumed-begun s trace = verdict-cong _ _ _ (sym (zero-add _)) refl refl refl
+  pub failed-now : known ≡ 0 → holds ≡ false → count ≡ failedAt known holds count
+  unfolding failedAt
+  failed-now h e = rw (h, e)
 
--- where nothing follows, it stops
-known-nothing : (count : ℕ) → count ≡ known count 0
-unfolding known
-known-nothing zero = refl
-known-nothing (suc count) = refl
+-- ---- the verdict from here: of what is counted so far, the state, the byte where the next record starts, and what follows
+-- where the run stops
+abbrev pub verdictAt : (tally : Tally) (number at : ℕ) (last : State) → Verdict
+verdictAt tally number at last = record { tally = tally; refusal = number; at = at; state = last }
 
-resumed-stopped : (v : Verdict) (number : ℕ) → refusedBy v number ≡ resumed v (stopped number (v .at))
-unfolding firstFailing greatestOf lastOf
-resumed-stopped v number =
-    verdict-cong _ _ _ (sym (add-zero (v .accepted))) (known-nothing (v .weak)) (known-nothing (v .strong)) (omega arith)
+-- where it goes on with a trace
+abbrev pub resumed : Tally → State → Trace → Verdict
+resumed tally s trace =
+    verdictAt (foldl tallyAfter tally (trace .steps)) (trace .refusal) (trace .at) (lastOf s (statesIn (trace .steps)))
 
--- one action more
-known-suc : (before count : ℕ) (holds : Bool) (rest : List Bool)
-    → known before (firstFailing (suc count) (holds ∷ rest)) ≡ known (failedAt before holds (suc count)) (firstFailing (suc (suc count)) rest)
-unfolding known firstFailing
-known-suc zero count true rest = refl
-known-suc zero count false rest = refl
-known-suc (suc before) count holds rest = refl
+-- from the first state on it is the verdict of the whole: of the steps that are counted and those that follow
+tally-steps : (first : State) (rest done : List Step) → tallyOf first (done ++ rest) ≡ foldl tallyAfter (tallyOf first done) rest
+tally-steps first [] done = ap (tallyOf first) (append-nil done)
+tally-steps first (step ∷ rest) done =
+    ap (tallyOf first) (sym (append-snoc done step rest))
+    ∙ tally-steps first rest (done ++ step ∷ [])
+    ∙ ap (λ (tally : Tally). foldl tallyAfter tally rest) (tally-more first done step)
 
-known-on : (before count : ℕ) (holds : Bool) (rest : List Bool)
-    → known before (firstFailing (count + 1) (holds ∷ rest)) ≡ known (failedAt before holds (count + 1)) (firstFailing (count + 1 + 1) rest)
-known-on before count holds rest = simp add-one (known-suc before count holds rest)
+-- the record at a place of the run, and the trace from there on
+abbrev pub recordHere : List ℕ → ℕ → List ℕ
+recordHere run at = take recordWidth (drop at run)
 
-resumed-on : (v : Verdict) (s : State) (rest : Trace) → resumed v (acceptedThen s rest) ≡ resumed (after v s) rest
-unfolding greatestOf lastOf
-resumed-on v s rest =
-    verdict-cong _ _ _ (omega arith) (known-on (v .weak) (v .accepted) (weakHolds s) (map weakHolds (rest .states)))
-    (known-on (v .strong) (v .accepted) (strongHolds s) (map strongHolds (rest .states))) (omega arith)
+abbrev pub traceHere : State → ℕ → List ℕ → Trace
+traceHere s at run = traceFrom s at (pieces recordWidth (drop at run))
 
--- ---- the verdict from here: the verdict so far, and the records from its place on
-abbrev pub fromHere : Verdict → List ℕ → Verdict
-fromHere v run = resumed v (traceFrom (v .state) (v .at) (pieces recordWidth (drop (v .at) run)))
+abbrev pub fromHere : Tally → State → ℕ → List ℕ → Verdict
+fromHere tally s at run = resumed tally s (traceHere s at run)
 
--- at the first action it is the verdict of the run
-pub here-begun : (s : State) (run : List ℕ) → verdictFrom s (traceFrom s recordWidth (recordsOf run)) ≡ fromHere (begun s) run
-here-begun s run = resumed-begun s (traceFrom s recordWidth (recordsOf run))
+-- at the first record it is the verdict of the run
+pub here-begun : (s : State) (run : List ℕ)
+    → verdictFrom s (traceFrom s configurationWidth (recordsOf run)) ≡ fromHere (tallyOf s []) s configurationWidth run
+here-begun s run =
+    let trace : Trace = traceHere s configurationWidth run in
+    ap (λ (tally : Tally). verdictAt tally (trace .refusal) (trace .at) (lastOf s (statesIn (trace .steps)))) (tally-steps s (trace .steps) [])
 
--- the record at its place
-abbrev pub recordHere : Verdict → List ℕ → List ℕ
-recordHere v run = take recordWidth (drop (v .at) run)
+module _ (tally : Tally) (s : State) (at : ℕ) (run : List ℕ) where
+  -- at the run's end nothing is refused
+  pub here-end : length run ≤ at → verdictAt tally accepted at s ≡ fromHere tally s at run
+  unfolding traceFrom lastOf
+  here-end h =
+      let none : length (drop at run) ≤ 0 = rw length-drop (omega arith) in
+      ap (λ (l : List (List ℕ)). resumed tally s (traceFrom s at l)) (sym (pieces-none recordWidth (drop at run) none))
 
--- at the run's end nothing is refused
-pub here-end : (v : Verdict) (run : List ℕ) → length run ≤ v .at → refusedBy v accepted ≡ fromHere v run
-unfolding traceFrom
-here-end v run h =
-    let none : length (drop (v .at) run) ≤ 0 = rw length-drop (omega arith) in
-    resumed-stopped v accepted ∙ ap (λ (l : List (List ℕ)). resumed v (traceFrom (v .state) (v .at) l)) (sym (pieces-none recordWidth (drop (v .at) run) none))
+  -- where bytes are left: the next record, and then the rest
+  trace-more : at < length run
+      → traceHere s at run
+      ≡ traceBy at (stepOn s (recordHere run at))
+      (traceFrom (actOn s (recordHere run at) .state) (at + length (recordHere run at)) (pieces recordWidth (drop recordWidth (drop at run))))
+  unfolding traceFrom
+  trace-more h = ap (traceFrom s at) (pieces-more 5 (drop at run) (rw length-drop (omega arith)))
 
--- where bytes are left: the next record, and then the rest
-trace-more : (s : State) (at : ℕ) (l : List ℕ) → 0 < length l → traceFrom s at (pieces recordWidth l)
-    ≡ traceBy (actOn s (take recordWidth l) .refusal) at (actOn s (take recordWidth l) .state)
-    (traceFrom (actOn s (take recordWidth l) .state) (at + length (take recordWidth l)) (pieces recordWidth (drop recordWidth l)))
-unfolding traceFrom
-trace-more s at l h = ap (traceFrom s at) (pieces-more 5 l h)
+  -- a record that is refused
+  pub here-refused : at < length run → (actOn s (recordHere run at) .refusal ≡ accepted → ⊥)
+      → verdictAt tally (actOn s (recordHere run at) .refusal) at s ≡ fromHere tally s at run
+  unfolding lastOf
+  here-refused h refused = ap (resumed tally s) (sym (trace-more h ∙ trace-refused at (stepOn s (recordHere run at)) _ refused))
 
--- a record that is refused
-trace-refused : (n at : ℕ) (s : State) (rest : Trace) → (n ≡ accepted → ⊥) → traceBy n at s rest ≡ stopped n at
-unfolding traceBy
-trace-refused zero at s rest h = absurd (h refl)
-trace-refused (suc n) at s rest h = refl
-
-pub here-refused : (v : Verdict) (run : List ℕ) → v .at < length run → (actOn (v .state) (recordHere v run) .refusal ≡ accepted → ⊥)
-    → refusedBy v (actOn (v .state) (recordHere v run) .refusal) ≡ fromHere v run
-here-refused v run h refused =
-    resumed-stopped v (actOn (v .state) (recordHere v run) .refusal)
-    ∙ ap (resumed v) (sym (trace-more (v .state) (v .at) (drop (v .at) run) (rw length-drop (omega arith)) ∙ trace-refused _ _ _ _ refused))
-
--- a record that is accepted, of six bytes
-trace-accepted : (n at : ℕ) (s : State) (rest : Trace) → n ≡ accepted → traceBy n at s rest ≡ acceptedThen s rest
-unfolding traceBy
-trace-accepted n at s rest h = rw h
-
-pub here-on : (v : Verdict) (run : List ℕ) → v .at + recordWidth ≤ length run → actOn (v .state) (recordHere v run) .refusal ≡ accepted
-    → fromHere v run ≡ fromHere (after v (actOn (v .state) (recordHere v run) .state)) run
-here-on v run h ok =
-    let next : State = actOn (v .state) (recordHere v run) .state in
-    let six : length (recordHere v run) ≡ recordWidth = length-take-le recordWidth (drop (v .at) run) (rw length-drop (omega arith)) in
-    ap (resumed v)
-    (trace-more (v .state) (v .at) (drop (v .at) run) (rw length-drop (omega arith))
-    ∙ trace-accepted _ _ _ _ ok)
-    ∙ resumed-on v next _
-    ∙ ap₂ (λ (k : ℕ) (l : List ℕ). resumed (after v next) (traceFrom next (v .at + k) (pieces recordWidth l))) six (drop-drop recordWidth (v .at) run)
+  -- one that is accepted, with all its bytes
+  pub here-on : at + recordWidth ≤ length run → actOn s (recordHere run at) .refusal ≡ accepted
+      → fromHere tally s at run
+      ≡ fromHere (tallyAfter tally (stepOn s (recordHere run at))) (actOn s (recordHere run at) .state) (at + recordWidth) run
+  unfolding lastOf
+  here-on h ok =
+      let step : Step = stepOn s (recordHere run at) in
+      let next : State = handedBack step in
+      let six : length (recordHere run at) ≡ recordWidth = length-take-le recordWidth (drop at run) (rw length-drop (omega arith)) in
+      ap (resumed tally s) (trace-more (omega arith) ∙ trace-accepted at step _ ok)
+      ∙ ap₂ (λ (k : ℕ) (l : List ℕ). resumed (tallyAfter tally step) next (traceFrom next (at + k) (pieces recordWidth l)))
+      six (drop-drop recordWidth at run)

@@ -1,124 +1,136 @@
 -- What the length and the configuration of a run answer, and the verdict by that answer. Assumes nothing.
-use Prim.Native.Nat.{ℕ, zero, suc, _≤_, _<_}
+use Prim.Native.Nat.{ℕ, _≤_, _<_}
 use mathlib.Core.Path.{_≡_, refl, sym, ap, _∙_}
-use mathlib.Core.Bool.{Bool, true, false, cond}
+use mathlib.Core.Bool.{true}
 use mathlib.Core.List.{List}
 use native.Mathlib.Omega.{arith}
-use lib.Dec.{ltb}
-use lib.ListN.{length, take, length-take}
+use lib.ListN.{length, length-take}
 use borrow.Author.Tests.{lt-ltb, le-ltb, ltb-false}
-use Rattle.logic.specs.Table.{cond-true, cond-false}
+use Rattle.logic.specs.Refuse.{refuse-yes, refuse-no, refuse-zero, firstRefusal, first-zero, by-accepted, by-refused, by-first}
 use Rattle.parts.specs.Refusal.{accepted, tooShort, runTooLong}
 use Rattle.cluster.specs.declared.Limits.{Limits}
 use Rattle.cluster.specs.declared.State.{State}
 use Rattle.cluster.specs.declared.Outcome.{Outcome}
-use Rattle.cluster.specs.State.{limitsOf, zeroState, tidy}
+use Rattle.cluster.specs.State.{limitsOf, tidy}
 use Rattle.cluster.specs.Rules.{inRange, rules}
-use Rattle.cluster.specs.Fresh.{answer, freshState, fresh}
+use Rattle.cluster.specs.Outcome.{withZeros}
+use Rattle.cluster.specs.Fresh.{freshState, fresh}
 use Rattle.cluster.specs.FreshLaws.{fresh-tidy, fresh-rules, fresh-accepted}
 use Rattle.questions.specs.declared.Property.{Property}
 use Rattle.questions.specs.declared.IsrAnswer.{IsrAnswer}
 use Rattle.questions.specs.Isr.{askIsr}
 use Rattle.questions.specs.IsrTheorems.{fresh-holds}
-use Rattle.runs.specs.Run.{recordWidth, longestRun, configurationMark, recordRefusal, recordAnswer, configure, opening, recordsOf, Trace, traceFrom, verdictOf, verdictFrom, judgeBy, judge}
-use Rattle.runs.specs.RecordLaws.{record-short, record-said, record-refused, record-accepted, whole-record}
+use Rattle.runs.specs.Run.{configurationWidth, longestRun, configurationMark, recordRefusal, configure, configurationOf, recordsOf, lengthRefusal, opening, Trace, traceFrom, verdictFrom, unopened, judgeBy, judge}
+use Rattle.runs.specs.RecordLaws.{record-short, record-whole}
 
--- the bytes of a run's configuration, and R, L, M and X as they have them
-abbrev pub front : List ℕ → List ℕ
-front run = take recordWidth run
-
+-- R, L, M and X as a run's configuration has them
 abbrev pub limitsIn : List ℕ → Limits
-limitsIn run = limitsOf (front run)
+limitsIn run = limitsOf (configurationOf run)
+
+-- the number of the configuration's length and mark
+abbrev pub configurationRefusal : List ℕ → ℕ
+configurationRefusal run = recordRefusal configurationWidth configurationMark (configurationOf run)
 
 -- the state that a run opens with, and how far it goes from there
 abbrev pub firstState : List ℕ → State
 firstState run = opening run .state
 
 abbrev pub traceOf : List ℕ → Trace
-traceOf run = traceFrom (firstState run) recordWidth (recordsOf run)
+traceOf run = traceFrom (firstState run) configurationWidth (recordsOf run)
 
--- ---- by its length
-pub opening-too-long : (run : List ℕ) → longestRun < length run → opening run ≡ answer runTooLong zeroState
-unfolding opening
-opening-too-long run h = cond-true _ _ _ (lt-ltb longestRun (length run) h)
+module _ (run : List ℕ) where
+  -- ---- where it is not accepted
+  -- the run is too long, or not; then its configuration answers
+  pub opening-too-long : longestRun < length run → opening run ≡ withZeros runTooLong
+  unfolding opening lengthRefusal
+  opening-too-long h =
+      let e = refuse-yes _ runTooLong accepted (lt-ltb longestRun (length run) h) in
+      sym (by-refused _ withZeros (configure (configurationOf run)) (λ q. let w : runTooLong ≡ accepted = e ∙ q in omega arith)) ∙ ap withZeros (sym e)
 
-pub opening-configures : (run : List ℕ) → length run ≤ longestRun → opening run ≡ configure (front run)
-unfolding opening
-opening-configures run h = cond-false _ _ _ (le-ltb longestRun (length run) h)
+  pub opening-configures : length run ≤ longestRun → opening run ≡ configure (configurationOf run)
+  unfolding opening lengthRefusal
+  opening-configures h =
+      sym (by-accepted _ withZeros (configure (configurationOf run)) (sym (refuse-no _ runTooLong accepted (le-ltb longestRun (length run) h))))
 
-pub opening-too-short : (run : List ℕ) → length run < recordWidth → opening run ≡ answer tooShort zeroState
-unfolding configure
-opening-too-short run h =
-    opening-configures run (omega arith)
-    ∙ ap (λ (n : ℕ). recordAnswer n zeroState (fresh (limitsIn run))) (record-short configurationMark (front run) (rw length-take (omega arith)))
-    ∙ record-refused tooShort zeroState (fresh (limitsIn run)) (λ e. omega arith)
-
--- ---- where it is accepted
-by-length : (long : Bool) (o : Outcome) → cond long (answer runTooLong zeroState) o .refusal ≡ accepted
-    → (long ≡ false) × (cond long (answer runTooLong zeroState) o ≡ o)
-by-length true o h = absurd (omega arith)
-by-length false o h = (refl, refl)
-
-module _ (run : List ℕ) (ok : opening run .refusal ≡ accepted) where
-  by-opening : (ltb longestRun (length run) ≡ false) × (opening run ≡ configure (front run))
-  unfolding opening
-  by-opening = by-length (ltb longestRun (length run)) (configure (front run)) ok
-
-  -- the run is not too long, and has the six bytes of its configuration, with their mark
-  pub opening-short : length run ≤ longestRun
-  opening-short = ltb-false longestRun (length run) (by-opening .0)
-
-  pub configuration-whole : recordRefusal configurationMark (front run) ≡ accepted
+  -- the run is too short for its configuration
+  pub opening-too-short : length run < configurationWidth → opening run ≡ withZeros tooShort
   unfolding configure
-  configuration-whole = record-accepted _ zeroState (fresh (limitsIn run)) (ap (λ (o : Outcome). o .refusal) (sym (by-opening .1)) ∙ ok)
+  opening-too-short h =
+      let e = record-short configurationMark (configurationOf run) configurationWidth (rw length-take (omega arith)) in
+      opening-configures (omega arith)
+      ∙ sym (by-refused _ withZeros (fresh (limitsIn run)) (λ q. let w : tooShort ≡ accepted = e ∙ q in omega arith))
+      ∙ ap withZeros (sym e)
 
-  pub opening-six : recordWidth ≤ length run
-  opening-six = omega (arith, whole-record configurationMark (front run) configuration-whole .0, length-take recordWidth run)
-
-  pub front-six : length (front run) ≡ recordWidth
-  front-six = omega (arith, opening-six, length-take recordWidth run)
-
-  -- it opens with the fresh state of its configuration, which is in range; the state meets S1 to S7 and is tidy
-  pub opening-fresh : opening run ≡ fresh (limitsIn run)
-  unfolding configure
-  opening-fresh = by-opening .1 ∙ record-said _ zeroState (fresh (limitsIn run)) configuration-whole
-
-  pub fresh-opened : fresh (limitsIn run) .refusal ≡ accepted
-  fresh-opened = ap (λ (o : Outcome). o .refusal) (sym opening-fresh) ∙ ok
-
-  pub opening-in-range : inRange (limitsIn run) ≡ true
-  opening-in-range = fresh-accepted (limitsIn run) fresh-opened .0
-
-  pub opening-state : firstState run ≡ freshState (limitsIn run)
-  opening-state = ap (λ (o : Outcome). o .state) opening-fresh ∙ fresh-accepted (limitsIn run) fresh-opened .1
-
-  pub opening-limits : firstState run .limits ≡ limitsIn run
-  unfolding freshState
-  opening-limits = ap (λ (s : State). s .limits) opening-state
-
-  pub opening-rules : rules (firstState run) ≡ true
-  opening-rules = ap rules opening-state ∙ fresh-rules (limitsIn run) opening-in-range
-
-  pub opening-tidy : tidy (firstState run) ≡ firstState run
-  opening-tidy = ap tidy opening-state ∙ fresh-tidy (limitsIn run) ∙ sym opening-state
-
-  -- and fails neither weak ISR nor strong ISR
-  pub opening-holds : (property : Property) → askIsr property (firstState run) .holds ≡ true
-  opening-holds property =
-      ap (λ (o : Outcome). askIsr property (o .state) .holds) opening-fresh
-      ∙ ap (λ (a : IsrAnswer). a .holds) (fresh-holds property (limitsIn run) fresh-opened)
-
-  -- its verdict is that of its trace
-  pub opened : judge run ≡ verdictFrom (firstState run) (traceOf run)
+  -- the verdict: the refusal, and nothing else
+  pub judge-unopened : (opening run .refusal ≡ accepted → ⊥) → judge run ≡ unopened (opening run .refusal)
   unfolding judge judgeBy
-  opened = ap (λ (n : ℕ). judgeBy n (firstState run) (recordsOf run)) ok
+  judge-unopened h = sym (by-refused _ unopened (verdictFrom (firstState run) (traceOf run)) h)
 
--- ---- where it is not
--- the verdict: the refusal, and zeros
-pub unopened : (run : List ℕ) → (opening run .refusal ≡ accepted → ⊥) → judge run ≡ verdictOf 0 (opening run .refusal) 0 0 0 0 zeroState
-unfolding judge judgeBy
-unopened run h = go (opening run .refusal) h
-  where
-    go : (n : ℕ) → (n ≡ accepted → ⊥) → judgeBy n (opening run .state) (recordsOf run) ≡ verdictOf 0 n 0 0 0 0 zeroState
-    go zero f = absurd (f refl)
-    go (suc n) f = refl
+  -- ---- the number: that of the length, then that of the configuration's length and mark, then that of the fresh state
+  pub opening-number : firstRefusal (lengthRefusal run) (firstRefusal (configurationRefusal run) (fresh (limitsIn run) .refusal)) ≡ opening run .refusal
+  unfolding opening configure
+  opening-number =
+      ap (firstRefusal (lengthRefusal run)) (by-first (λ (o : Outcome). o .refusal) (configurationRefusal run) withZeros (fresh (limitsIn run)) (λ k. refl))
+      ∙ by-first (λ (o : Outcome). o .refusal) (lengthRefusal run) withZeros (configure (configurationOf run)) (λ k. refl)
+
+  -- ---- where it is accepted
+  module _ (ok : opening run .refusal ≡ accepted) where
+    -- none of the three refuses
+    length-accepted : lengthRefusal run ≡ accepted
+    length-accepted = first-zero _ _ (opening-number ∙ ok) .0
+
+    configuration-accepted : (configurationRefusal run ≡ accepted) × (fresh (limitsIn run) .refusal ≡ accepted)
+    configuration-accepted = first-zero _ _ (first-zero (lengthRefusal run) _ (opening-number ∙ ok) .1)
+
+    -- the run is not too long, and has the bytes of its configuration
+    pub opening-short : length run ≤ longestRun
+    unfolding lengthRefusal
+    opening-short = ltb-false longestRun (length run) (refuse-zero _ _ _ length-accepted .0)
+
+    pub opening-long : configurationWidth ≤ length run
+    opening-long =
+        omega (
+          arith,
+          record-whole configurationMark (configurationOf run) configurationWidth .0 (configuration-accepted .0) .0,
+          length-take configurationWidth run,
+        )
+
+    pub configuration-length : length (configurationOf run) ≡ configurationWidth
+    configuration-length = omega (arith, opening-long, length-take configurationWidth run)
+
+    -- it opens with the fresh state of its configuration, which is in range; the state meets S1 to S7 and is tidy
+    pub fresh-opened : fresh (limitsIn run) .refusal ≡ accepted
+    fresh-opened = configuration-accepted .1
+
+    pub opening-fresh : opening run ≡ fresh (limitsIn run)
+    unfolding opening configure
+    opening-fresh =
+        sym (by-accepted _ withZeros (configure (configurationOf run)) length-accepted)
+        ∙ sym (by-accepted _ withZeros (fresh (limitsIn run)) (configuration-accepted .0))
+
+    pub opening-in-range : inRange (limitsIn run) ≡ true
+    opening-in-range = fresh-accepted (limitsIn run) fresh-opened .0
+
+    pub opening-state : firstState run ≡ freshState (limitsIn run)
+    opening-state = ap (λ (o : Outcome). o .state) opening-fresh ∙ fresh-accepted (limitsIn run) fresh-opened .1
+
+    pub opening-limits : firstState run .limits ≡ limitsIn run
+    unfolding freshState
+    opening-limits = ap (λ (s : State). s .limits) opening-state
+
+    pub opening-rules : rules (firstState run) ≡ true
+    opening-rules = ap rules opening-state ∙ fresh-rules (limitsIn run) opening-in-range
+
+    pub opening-tidy : tidy (firstState run) ≡ firstState run
+    opening-tidy = ap tidy opening-state ∙ fresh-tidy (limitsIn run) ∙ sym opening-state
+
+    -- and fails neither weak ISR nor strong ISR
+    pub opening-holds : (property : Property) → askIsr property (firstState run) .holds ≡ true
+    opening-holds property =
+        ap (λ (o : Outcome). askIsr property (o .state) .holds) opening-fresh
+        ∙ ap (λ (a : IsrAnswer). a .holds) (fresh-holds property (limitsIn run) fresh-opened)
+
+    -- its verdict is that of its trace
+    pub opened : judge run ≡ verdictFrom (firstState run) (traceOf run)
+    unfolding judge judgeBy
+    opened = sym (by-accepted _ unopened (verdictFrom (firstState run) (traceOf run)) ok)

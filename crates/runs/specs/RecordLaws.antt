@@ -1,110 +1,122 @@
 -- What a record answers, by its length and its mark, and what it keeps of the state before it. Assumes nothing.
 use Prim.Native.Nat.{ℕ, zero, suc, _≤_, _<_}
-use mathlib.Core.Path.{_≡_, refl, sym, ap, _∙_, subst}
+use mathlib.Core.Path.{_≡_, refl, sym, ap, ap₂, _∙_, subst}
 use mathlib.Core.Bool.{true, false, not}
 use mathlib.Core.List.{List}
+use mathlib.Core.Logic.{_↔_}
 use native.Mathlib.Omega.{arith}
 use lib.ListN.{length}
 use borrow.Author.Tests.{lt-ltb, le-ltb, ltb-false, not-false}
-use Rattle.logic.specs.Refuse.{refuse-yes, refuse-no, refuse-none, refuse-zero}
+use Rattle.logic.specs.Refuse.{refuse-yes, refuse-no, refuse-zero, firstRefusal, first-yes, first-zero, by-accepted, by-refused, by-cases, by-first}
 use Rattle.parts.specs.Refusal.{accepted, wrongMark, tooShort}
 use Rattle.parts.specs.Mark.{marked}
 use Rattle.cluster.specs.declared.State.{State}
-use Rattle.cluster.specs.declared.Outcome.{Outcome}
+use Rattle.cluster.specs.declared.ActionAnswer.{ActionAnswer}
 use Rattle.cluster.specs.State.{tidy}
 use Rattle.cluster.specs.Rules.{rules}
-use Rattle.cluster.specs.Fresh.{answer}
-use Rattle.cluster.specs.Act.{actionRefusal, effect, step, act}
+use Rattle.cluster.specs.Act.{actionRefusal, refusedOn, effect, step, act}
 use Rattle.cluster.specs.ActLaws.{answer-number, answer-zero}
 use Rattle.actions.specs.Kept.{Kept, kept-same, step-kept, step-is-act}
-use Rattle.runs.specs.Run.{recordWidth, recordRefusal, recordAnswer, actionMark, actionIn, actOn}
+use Rattle.runs.specs.declared.record.ActionRecord.{ActionRecord}
+use Rattle.runs.specs.Run.{recordWidth, actionMark, markRefusal, recordRefusal, actionIn, actOn}
 
--- ---- the number of a record's length and its mark
+-- ---- the number of a record's mark, and that of its length and its mark
 module _ (mark : ℕ) (bytes : List ℕ) where
-  -- fewer than six bytes; six with another mark
-  pub record-short : length bytes < recordWidth → recordRefusal mark bytes ≡ tooShort
-  unfolding recordRefusal
-  record-short h = sym (refuse-yes _ _ _ (lt-ltb (length bytes) recordWidth h))
+  pub mark-wrong : marked mark bytes ≡ false → wrongMark ≡ markRefusal mark bytes
+  unfolding markRefusal
+  mark-wrong m = refuse-yes _ wrongMark accepted (ap not m)
 
-  pub record-unmarked : recordWidth ≤ length bytes → marked mark bytes ≡ false → recordRefusal mark bytes ≡ wrongMark
-  unfolding recordRefusal
-  record-unmarked h m =
-      sym (refuse-yes _ wrongMark accepted (ap not m) ∙ refuse-no _ _ _ (le-ltb (length bytes) recordWidth h))
+  pub mark-right : marked mark bytes ≡ true → accepted ≡ markRefusal mark bytes
+  unfolding markRefusal
+  mark-right m = refuse-no _ wrongMark accepted (ap not m)
 
-  -- it is 0 where the record has six bytes and the mark, and nowhere else
-  pub record-whole : recordWidth ≤ length bytes → marked mark bytes ≡ true → recordRefusal mark bytes ≡ accepted
-  unfolding recordRefusal
-  record-whole h m = refuse-none _ _ _ (le-ltb (length bytes) recordWidth h) (refuse-none _ _ _ (ap not m) refl)
+  right-mark : markRefusal mark bytes ≡ accepted → marked mark bytes ≡ true
+  unfolding markRefusal
+  right-mark h = not-false _ (refuse-zero _ _ _ h .0)
 
-  pub whole-record : recordRefusal mark bytes ≡ accepted → (recordWidth ≤ length bytes) × (marked mark bytes ≡ true)
-  unfolding recordRefusal
-  whole-record h =
-      let p = refuse-zero _ _ _ h in
-      (ltb-false (length bytes) recordWidth (p .0), not-false _ (refuse-zero _ _ _ (p .1) .0))
+  module _ (width : ℕ) where
+    -- too short; as long as it has to be
+    pub record-short : length bytes < width → tooShort ≡ recordRefusal width mark bytes
+    unfolding recordRefusal
+    record-short h = refuse-yes _ tooShort (markRefusal mark bytes) (lt-ltb (length bytes) width h)
 
--- ---- the answer of a record
--- at 0 it is what the record says
-pub record-said : (n : ℕ) (before : State) (said : Outcome) → n ≡ accepted → recordAnswer n before said ≡ said
-unfolding recordAnswer
-record-said n before said h = rw h
+    pub record-long : width ≤ length bytes → markRefusal mark bytes ≡ recordRefusal width mark bytes
+    unfolding recordRefusal
+    record-long h = refuse-no _ tooShort (markRefusal mark bytes) (le-ltb (length bytes) width h)
 
--- at any other number it is that and the state before; so the answer is 0 only where n is
-pub record-refused : (n : ℕ) (before : State) (said : Outcome) → (n ≡ accepted → ⊥) → recordAnswer n before said ≡ answer n before
-unfolding recordAnswer
-record-refused zero before said h = absurd (h refl)
-record-refused (suc n) before said h = refl
+    -- it is 0 exactly where the record has its bytes and its mark
+    pub record-whole : recordRefusal width mark bytes ≡ accepted ↔ (width ≤ length bytes) × (marked mark bytes ≡ true)
+    unfolding recordRefusal
+    record-whole = (
+      (λ h.
+          let p = refuse-zero _ _ _ h in
+          (ltb-false (length bytes) width (p .0), right-mark (p .1))),
+      (λ p. sym (record-long (p .0)) ∙ sym (mark-right (p .1))),
+    )
 
-pub record-accepted : (n : ℕ) (before : State) (said : Outcome) → recordAnswer n before said .refusal ≡ accepted → n ≡ accepted
-unfolding recordAnswer
-record-accepted zero before said h = refl
-record-accepted (suc n) before said h = h
+-- ---- the record of an action
+-- as it is read: the number of its mark, and the action
+abbrev pub readAction : List ℕ → ActionRecord
+readAction bytes = record { refusal = markRefusal actionMark bytes; action = actionIn bytes }
 
--- ---- an action
--- a whole record with the action mark answers as its action does
-pub whole-acts : (s : State) (bytes : List ℕ) → recordRefusal actionMark bytes ≡ accepted → actOn s bytes ≡ act s (actionIn bytes)
-unfolding actOn
-whole-acts s bytes = record-said (recordRefusal actionMark bytes) s (act s (actionIn bytes))
+module _ (s : State) (bytes : List ℕ) where
+  -- a whole one answers as its action does
+  pub whole-acts : recordRefusal recordWidth actionMark bytes ≡ accepted → actOn s bytes ≡ act s (actionIn bytes)
+  unfolding actOn
+  whole-acts whole = sym (by-accepted _ (refusedOn s) (act s (actionIn bytes)) whole)
 
--- an accepted one is such a record
-accepted-marked : (s : State) (bytes : List ℕ) → actOn s bytes .refusal ≡ accepted → recordRefusal actionMark bytes ≡ accepted
-unfolding actOn
-accepted-marked s bytes = record-accepted (recordRefusal actionMark bytes) s (act s (actionIn bytes))
+  -- any other by its own number, with the state before it
+  pub unread : (recordRefusal recordWidth actionMark bytes ≡ accepted → ⊥)
+      → actOn s bytes ≡ refusedOn s (recordRefusal recordWidth actionMark bytes)
+  unfolding actOn
+  unread torn = sym (by-refused _ (refusedOn s) (act s (actionIn bytes)) torn)
 
--- so it answers as its action does
-pub accepted-acts : (s : State) (bytes : List ℕ) → actOn s bytes .refusal ≡ accepted → actOn s bytes ≡ act s (actionIn bytes)
-accepted-acts s bytes h = whole-acts s bytes (accepted-marked s bytes h)
+  -- so the number is the record's own, and then the action's
+  pub record-number : firstRefusal (recordRefusal recordWidth actionMark bytes) (act s (actionIn bytes) .refusal) ≡ actOn s bytes .refusal
+  unfolding actOn
+  record-number = by-first (λ (a : ActionAnswer). a .refusal) _ (refusedOn s) (act s (actionIn bytes)) (λ k. refl)
 
--- any other answers by its length and its mark
-pub unread : (s : State) (bytes : List ℕ) (n : ℕ) → recordRefusal actionMark bytes ≡ suc n → actOn s bytes ≡ answer (suc n) s
-unfolding actOn
-unread s bytes n h =
-    ap (λ (k : ℕ). recordAnswer k s (act s (actionIn bytes))) h ∙ record-refused (suc n) s (act s (actionIn bytes)) (λ e. omega arith)
+  -- it is 21 where the record is too short
+  pub short-number : length bytes < recordWidth → tooShort ≡ actOn s bytes .refusal
+  short-number h =
+      let e = record-short actionMark bytes recordWidth h in
+      e ∙ first-yes _ _ (λ q. let w : tooShort ≡ accepted = e ∙ q in omega arith) ∙ record-number
 
--- ---- an action on a state that meets the rules and is tidy
+  -- an accepted one is whole
+  pub accepted-whole : actOn s bytes .refusal ≡ accepted → recordRefusal recordWidth actionMark bytes ≡ accepted
+  accepted-whole ok = first-zero _ (act s (actionIn bytes) .refusal) (record-number ∙ ok) .0
+
+  pub accepted-acts : actOn s bytes .refusal ≡ accepted → actOn s bytes ≡ act s (actionIn bytes)
+  accepted-acts ok = whole-acts (accepted-whole ok)
+
+-- ---- on a state that meets the rules and is tidy
 module _ (s : State) (bytes : List ℕ) (h : rules s ≡ true) (t : tidy s ≡ s) where
-  -- a whole record with the action mark takes its action's step, and so has its number
-  steps : recordRefusal actionMark bytes ≡ accepted → actOn s bytes ≡ step s (actionIn bytes)
-  steps whole = whole-acts s bytes whole ∙ sym (step-is-act s (actionIn bytes) h t)
-
-  pub whole-number : recordRefusal actionMark bytes ≡ accepted → actionRefusal s (actionIn bytes) ≡ actOn s bytes .refusal
+  -- the action's number and its next state are those of its step
+  act-number-is : act s (actionIn bytes) .refusal ≡ actionRefusal s (actionIn bytes)
   unfolding step
-  whole-number whole = sym (ap (λ (o : Outcome). o .refusal) (steps whole) ∙ answer-number _ s (effect s (actionIn bytes)))
+  act-number-is =
+      ap (λ (a : ActionAnswer). a .refusal) (sym (step-is-act s (actionIn bytes) h t)) ∙ answer-number _ s (effect s (actionIn bytes))
+
+  -- the number of a record that has its bytes, from what is read of it
+  pub read-number : recordWidth ≤ length bytes
+      → firstRefusal (readAction bytes .refusal) (actionRefusal s (readAction bytes .action)) ≡ actOn s bytes .refusal
+  read-number long =
+      ap₂ firstRefusal (record-long actionMark bytes recordWidth long) (sym act-number-is) ∙ record-number s bytes
 
   -- an accepted one: its action is accepted, and the effect of that is the state that the record hands back
   pub accepted-number : actOn s bytes .refusal ≡ accepted → actionRefusal s (actionIn bytes) ≡ accepted
-  accepted-number ok = whole-number (accepted-marked s bytes ok) ∙ ok
+  accepted-number ok = sym act-number-is ∙ ap (λ (a : ActionAnswer). a .refusal) (sym (accepted-acts s bytes ok)) ∙ ok
 
   pub accepted-state : actOn s bytes .refusal ≡ accepted → effect s (actionIn bytes) ≡ actOn s bytes .state
   unfolding step
   accepted-state ok =
-      ap (λ (o : Outcome). o .state)
-      (answer-zero _ s (effect s (actionIn bytes)) (accepted-number ok) ∙ sym (steps (accepted-marked s bytes ok)))
+      ap (λ (a : ActionAnswer). a .state)
+      (answer-zero _ s (effect s (actionIn bytes)) (accepted-number ok) ∙ step-is-act s (actionIn bytes) h t ∙ sym (accepted-acts s bytes ok))
 
--- the state that a record hands back, of a state that meets the rules and is tidy
-pub act-on-kept : (s : State) (bytes : List ℕ) → rules s ≡ true → tidy s ≡ s → Kept s (actOn s bytes .state)
-unfolding actOn recordAnswer
-act-on-kept s bytes h t = go (recordRefusal actionMark bytes)
-  where
-    go : (n : ℕ) → Kept s (recordAnswer n s (act s (actionIn bytes)) .state)
-    go zero = subst (λ (o : Outcome). Kept s (o .state)) (step-is-act s (actionIn bytes) h t) (step-kept s (actionIn bytes) h t)
-    go (suc n) = kept-same s h t
+  -- the state that it hands back keeps what s has, whatever it answers
+  pub act-on-kept : Kept s (actOn s bytes .state)
+  unfolding actOn
+  act-on-kept =
+      by-cases (λ (a : ActionAnswer). Kept s (a .state)) (recordRefusal recordWidth actionMark bytes) (refusedOn s) (act s (actionIn bytes))
+      (λ e. subst (λ (a : ActionAnswer). Kept s (a .state)) (step-is-act s (actionIn bytes) h t) (step-kept s (actionIn bytes) h t))
+      (λ e. kept-same s h t)

@@ -2,113 +2,129 @@
 -- a, b, e. Checks: over 65,532 bytes 25; then per record: fewer than six bytes 21 (also for an empty run), mark 20, configuration
 -- 22, then the action's number. Each record is judged on its own part of the input. .. It stops at the first refusal. The first
 -- action takes the configuration's fresh state, each later one the state that the one before handed back". Assumes nothing.
-use Prim.Native.Nat.{ℕ, zero, suc, _+_}
-use mathlib.Core.Bool.{Bool, not, cond}
+use Prim.Native.Nat.{ℕ, _+_}
+use mathlib.Core.Bool.{Bool, not}
 use mathlib.Core.List.{List, [], _∷_, map}
 use lib.Dec.{ltb}
 use lib.ListN.{length, take, drop}
 use Rattle.logic.specs.Tests.{firstFailing}
-use Rattle.logic.specs.Refuse.{refuse}
+use Rattle.logic.specs.Refuse.{refuse, byRefusal}
 use Rattle.logic.specs.Greatest.{greatestOf}
 use Rattle.logic.specs.Pieces.{pieces}
 use Rattle.parts.specs.Refusal.{accepted, wrongMark, tooShort, runTooLong}
 use Rattle.parts.specs.Mark.{byteAt, marked}
 use Rattle.cluster.specs.declared.State.{State}
 use Rattle.cluster.specs.declared.Action.{Action}
+use Rattle.cluster.specs.declared.ActionAnswer.{ActionAnswer}
 use Rattle.cluster.specs.declared.Outcome.{Outcome}
 use Rattle.cluster.specs.State.{limitsOf, zeroState}
-use Rattle.cluster.specs.Fresh.{answer, fresh}
-use Rattle.cluster.specs.Act.{actionOf, act}
+use Rattle.cluster.specs.Outcome.{withZeros}
+use Rattle.cluster.specs.Fresh.{fresh}
+use Rattle.cluster.specs.Act.{actionOf, refusedOn, act}
 use Rattle.questions.specs.Isr.{weakIsr, strongIsr}
 use Rattle.questions.specs.Exposed.{exposed}
+use Rattle.runs.specs.declared.Tally.{Tally}
 use Rattle.runs.specs.declared.Verdict.{Verdict}
 
--- "records of six bytes", "over 65,532 bytes"
+-- "records of six bytes": the configuration, and each record of an action
+abbrev pub configurationWidth : ℕ
+configurationWidth = 6
+
 abbrev pub recordWidth : ℕ
 recordWidth = 6
 
+-- "over 65,532 bytes"
 abbrev pub longestRun : ℕ
 longestRun = 65532
 
--- ---- a record
--- the second byte of its mark: 4B 43 of the configuration, 4B 41 of an action
+-- the second byte of a mark: 4B 43 of the configuration, 4B 41 of an action
 abbrev pub configurationMark : ℕ
 configurationMark = 67
 
 abbrev pub actionMark : ℕ
 actionMark = 65
 
--- "fewer than six bytes 21 .., mark 20"
-unfoldable pub recordRefusal : ℕ → List ℕ → ℕ
-recordRefusal mark bytes =
-    refuse (ltb (length bytes) recordWidth) tooShort
-    (refuse (not (marked mark bytes)) wrongMark
-    accepted)
+-- ---- a record
+-- "mark 20"
+unfoldable pub markRefusal : (mark : ℕ) → List ℕ → ℕ
+markRefusal mark bytes = refuse (not (marked mark bytes)) wrongMark accepted
 
--- the answer of a record: what it says at 0, else the number and the state before it
-unfoldable pub recordAnswer : ℕ → State → Outcome → Outcome
-recordAnswer zero before said = said
-recordAnswer (suc n) before said = answer (suc n) before
+-- "fewer than six bytes 21 .., mark 20", by the width and the mark that the record has
+unfoldable pub recordRefusal : (width mark : ℕ) → List ℕ → ℕ
+recordRefusal width mark bytes = refuse (ltb (length bytes) width) tooShort (markRefusal mark bytes)
 
 -- "4B 43, R, L, M, X": the fresh state, or 21, 20 or 22 and zeros
 unfoldable pub configure : List ℕ → Outcome
-configure bytes = recordAnswer (recordRefusal configurationMark bytes) zeroState (fresh (limitsOf bytes))
+configure bytes = byRefusal (recordRefusal configurationWidth configurationMark bytes) withZeros (fresh (limitsOf bytes))
 
 -- "4B 41, kind, a, b, e"
 abbrev pub actionIn : List ℕ → Action
 actionIn bytes = actionOf (byteAt bytes 2) (byteAt bytes 3) (byteAt bytes 4) (byteAt bytes 5)
 
 -- the action's answer on the state before it, or 21 or 20 and that state
-unfoldable pub actOn : State → List ℕ → Outcome
-actOn s bytes = recordAnswer (recordRefusal actionMark bytes) s (act s (actionIn bytes))
+unfoldable pub actOn : State → List ℕ → ActionAnswer
+actOn s bytes = byRefusal (recordRefusal recordWidth actionMark bytes) (refusedOn s) (act s (actionIn bytes))
 
 -- ---- a run
--- what its length and its configuration answer: 0 and the fresh state, or 25, 21, 20 or 22 and zeros
-unfoldable pub opening : List ℕ → Outcome
-opening run = cond (ltb longestRun (length run)) (answer runTooLong zeroState) (configure (take recordWidth run))
+-- the part of it that holds its configuration
+abbrev pub configurationOf : List ℕ → List ℕ
+configurationOf run = take configurationWidth run
 
 -- its records behind the configuration; the last may have fewer than six bytes
 abbrev pub recordsOf : List ℕ → List (List ℕ)
-recordsOf run = pieces recordWidth (drop recordWidth run)
+recordsOf run = pieces recordWidth (drop configurationWidth run)
 
--- how far a run goes: the states that its accepted actions hand back, in order; the refusal, or 0; the byte where the refused
--- record starts, or where the run ends
+-- "over 65,532 bytes 25"
+unfoldable pub lengthRefusal : List ℕ → ℕ
+lengthRefusal run = refuse (ltb longestRun (length run)) runTooLong accepted
+
+-- what its length and its configuration answer: 0 and the fresh state, or 25, 21, 20 or 22 and zeros
+unfoldable pub opening : List ℕ → Outcome
+opening run = byRefusal (lengthRefusal run) withZeros (configure (configurationOf run))
+
+-- ---- how far a run goes
+-- a record on a state: its action, and what it answers there
+pub record Step : Type 0 where
+  pub action : Action
+  pub answer : ActionAnswer
+
+-- what a record makes of a state
+abbrev pub stepOn : State → List ℕ → Step
+stepOn s bytes = record { action = actionIn bytes; answer = actOn s bytes }
+
+-- the state that a step hands back, and those of steps, in order
+abbrev pub handedBack : Step → State
+handedBack step = step .answer .state
+
+abbrev pub statesIn : List Step → List State
+statesIn steps = map handedBack steps
+
+-- the accepted records, in order; the refusal, or 0; the byte where the refused record starts, or where the run ends
 pub record Trace : Type 0 where
-  pub states : List State
+  pub steps : List Step
   pub refusal : ℕ
   pub at : ℕ
 
--- no action more: this number, at this byte
-abbrev pub stopped : ℕ → ℕ → Trace
-stopped number at = record { states = []; refusal = number; at = at }
+-- no step more: at this byte, by this number
+abbrev pub stopped : (at number : ℕ) → Trace
+stopped at number = record { steps = []; refusal = number; at = at }
 
--- an accepted action that hands back s, and then the rest
-abbrev pub acceptedThen : State → Trace → Trace
-acceptedThen s rest = record { states = s ∷ rest .states; refusal = rest .refusal; at = rest .at }
+-- a step, and then the rest
+abbrev pub stepThen : Step → Trace → Trace
+stepThen step rest = record { steps = step ∷ rest .steps; refusal = rest .refusal; at = rest .at }
 
--- by the number of a record at byte `at`: the state that it hands back and then the rest, or the end
-unfoldable pub traceBy : ℕ → ℕ → State → Trace → Trace
-traceBy zero at next rest = acceptedThen next rest
-traceBy (suc n) at next rest = stopped (suc n) at
+-- by the answer of the record at byte `at`: accepted, its step and then the rest; refused, the end
+unfoldable pub traceBy : ℕ → Step → Trace → Trace
+traceBy at step rest = byRefusal (step .answer .refusal) (stopped at) (stepThen step rest)
 
 -- from the state s on, with the next record at byte `at`
 unfoldable pub traceFrom : State → ℕ → List (List ℕ) → Trace
-traceFrom s at [] = stopped accepted at
+traceFrom s at [] = stopped at accepted
 traceFrom s at (bytes ∷ records) =
-    let rest : Trace = traceFrom (actOn s bytes .state) (at + length bytes) records in
-    traceBy (actOn s bytes .refusal) at (actOn s bytes .state) rest
+    let rest : Trace = traceFrom (handedBack (stepOn s bytes)) (at + length bytes) records in
+    traceBy at (stepOn s bytes) rest
 
 -- ---- the verdict
--- the numbers in the order of the paper, and the last state
-abbrev pub verdictOf : ℕ → ℕ → ℕ → ℕ → ℕ → ℕ → State → Verdict
-verdictOf count number at weak strong greatest s =
-    record { accepted = count; refusal = number; at = at; weak = weak; strong = strong; exposed = greatest; state = s }
-
--- the last state: of the first one and those after it
-unfoldable pub lastOf : State → List State → State
-lastOf s [] = s
-lastOf s (t ∷ ts) = lastOf t ts
-
 -- weak ISR, and strong ISR, hold of a state
 abbrev pub weakHolds : State → Bool
 weakHolds s = weakIsr s .holds
@@ -116,22 +132,46 @@ weakHolds s = weakIsr s .holds
 abbrev pub strongHolds : State → Bool
 strongHolds s = strongIsr s .holds
 
--- "actions accepted; refusal or 0; byte where the refused record starts (input length if accepted ..); accepted actions when weak,
--- then strong, first failed (0 if never; a fresh state fails neither); exposed, the greatest hw of any presuming replica in any
--- state of the run; the last state": of a run from the state s on
-abbrev pub verdictFrom : State → Trace → Verdict
-verdictFrom s trace =
-    verdictOf (length (trace .states)) (trace .refusal) (trace .at)
-    (firstFailing 1 (map weakHolds (trace .states)))
-    (firstFailing 1 (map strongHolds (trace .states)))
-    (greatestOf (map exposed (s ∷ trace .states)))
-    (lastOf s (trace .states))
+-- what is counted over the steps from a first state on: "actions accepted"; "accepted actions when weak, then strong, first failed
+-- (0 if never; a fresh state fails neither)"; "exposed, the greatest hw of any presuming replica in any state of the run"
+abbrev pub tallyOf : State → List Step → Tally
+tallyOf first steps =
+    record {
+      accepted = length steps;
+      weak = firstFailing 1 (map weakHolds (statesIn steps));
+      strong = firstFailing 1 (map strongHolds (statesIn steps));
+      exposed = greatestOf (map exposed (first ∷ statesIn steps));
+    }
 
--- by what the length and the configuration answer: refused, the number and zeros, at byte 0, where the configuration starts
-unfoldable pub judgeBy : ℕ → State → List (List ℕ) → Verdict
-judgeBy zero s records = verdictFrom s (traceFrom s recordWidth records)
-judgeBy (suc n) s records = verdictOf 0 (suc n) 0 0 0 0 zeroState
+-- nothing is counted
+abbrev pub noTally : Tally
+noTally = record { accepted = 0; weak = 0; strong = 0; exposed = 0 }
+
+-- the last state: of a first one and those behind it
+unfoldable pub lastOf : State → List State → State
+lastOf s [] = s
+lastOf s (t ∷ ts) = lastOf t ts
+
+-- what is counted; "refusal or 0; byte where the refused record starts (input length if accepted ..)"; "the last state": from a
+-- first state on
+abbrev pub verdictFrom : State → Trace → Verdict
+verdictFrom first trace =
+    record {
+      tally = tallyOf first (trace .steps);
+      refusal = trace .refusal;
+      at = trace .at;
+      state = lastOf first (statesIn (trace .steps));
+    }
+
+-- refused by its length or its configuration: nothing is counted, the byte is 0, "all-zero if there is none"
+abbrev pub unopened : ℕ → Verdict
+unopened number = record { tally = noTally; refusal = number; at = 0; state = zeroState }
+
+-- by what the length and the configuration answer
+unfoldable pub judgeBy : Outcome → List (List ℕ) → Verdict
+judgeBy o records =
+    byRefusal (o .refusal) unopened (verdictFrom (o .state) (traceFrom (o .state) configurationWidth records))
 
 -- the verdict of a run of bytes
 unfoldable pub judge : List ℕ → Verdict
-judge run = judgeBy (opening run .refusal) (opening run .state) (recordsOf run)
+judge run = judgeBy (opening run) (recordsOf run)

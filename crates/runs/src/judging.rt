@@ -1,15 +1,15 @@
-// How far a run has come, as it is judged.
+// What is counted over a run as it is judged, and the verdict where it stops.
 ghost use mathlib.Core.Path.{_≡_};
 ghost use mathlib.Core.Bool.{true, false};
+ghost use mathlib.Core.List.{[]};
 ghost use Prim.Native.Nat.{_≤_, max};
-ghost use Rattle.cluster.specs.State.{zeroState};
 ghost use Rattle.cluster.specs.Rules.{rules};
 ghost use Rattle.questions.specs.Isr.{askIsr};
 ghost use Rattle.questions.specs.Exposed.{exposed};
 ghost use Rattle.questions.specs.Doubt.{ReadsWithin, holdsAfterAction, exposesMore};
-ghost use Rattle.runs.specs.Run.{recordWidth, longestRun, verdictOf};
-ghost use Rattle.runs.specs.Judging.{refusedBy, failedAt, progressOf, soFar, counted, Narrowed};
-use crate::RECORD_WIDTH;
+ghost use Rattle.runs.specs.Run.{longestRun, noTally, tallyOf, unopened};
+ghost use Rattle.runs.specs.Judging.{failedAt, acceptedStep, tallyAfter, Narrowed, verdictAt};
+use crate::Tally;
 use crate::Verdict;
 use cluster::Action;
 use cluster::State;
@@ -54,41 +54,37 @@ fn exposed_so_far(known: u8, next: State, kind: u8) -> u8
     known
 }
 
-// How far a run has come beside its last state: how many actions were accepted; the byte where the next record starts; how many
-// actions were accepted when weak ISR, and when strong ISR, first failed, or 0; the greatest high watermark of any presuming
-// replica so far. The state stands apart from it, so that the two change in place.
-pub(crate) struct Progress {
-    pub(crate) accepted: usize,
-    pub(crate) at: usize,
-    pub(crate) weak: usize,
-    pub(crate) strong: usize,
-    pub(crate) exposed: u8,
-}
-
-impl Progress {
-    // Before the first action. The caller shows that the fresh state meets the rules.
-    pub(crate) fn begun(fresh: State) -> Progress
-        requires { ⌜ rules fresh ≡ true ⌝ }
-        ensures { λ r. ⌜ r ≡ progressOf 0 recordWidth 0 0 (exposed fresh) ⌝ }
+impl Tally {
+    // Nothing is counted.
+    fn none() -> Tally
+        ensures { λ r. ⌜ r ≡ noTally ⌝ }
     {
-        Progress {
+        Tally {
             accepted: 0,
-            at: RECORD_WIDTH,
             weak: 0,
             strong: 0,
-            exposed: questions::exposed(fresh),
+            exposed: 0,
         }
     }
 
+    // Before the first action. The caller shows that the fresh state meets the rules.
+    pub(crate) fn begun(fresh: State) -> Tally
+        requires { ⌜ rules fresh ≡ true ⌝ }
+        ensures { λ r. ⌜ r ≡ tallyOf fresh [] ⌝ }
+    {
+        let mut tally = Tally::none();
+        tally.exposed = questions::exposed(fresh);
+        tally
+    }
+
     // One accepted action more, which handed back a state; the quorum's ISR before it is given too. The caller shows that the state
-    // meets the rules, that no count is past the longest run, that what the narrow test reads is there and decides what has not
+    // meets the rules, that the count is not past the longest run, that what the narrow test reads is there and decides what has not
     // failed, and that only kinds 2 and 7 expose more.
-    pub(crate) fn after(self, quorum_before: u8, next: State, action: Action) -> Progress
+    pub(crate) fn after(self, quorum_before: u8, next: State, action: Action) -> Tally
         requires { ⌜ rules next ≡ true ⌝ }
         requires { ⌜ self .accepted ≤ longestRun ⌝ }
-        requires { ⌜ self .at ≤ longestRun ⌝ }
         requires { ⌜ Narrowed self «quorum_before» next action ⌝ }
-        ensures { λ r. ⌜ r ≡ counted self next ⌝ }
+        ensures { λ r. ⌜ r ≡ tallyAfter self (acceptedStep action next) ⌝ }
     {
         let count = self.accepted + 1;
         let weak = failed_at(
@@ -107,26 +103,22 @@ impl Progress {
             action,
             count,
         );
-        Progress {
+        Tally {
             accepted: count,
-            at: self.at + RECORD_WIDTH,
             weak: weak,
             strong: strong,
             exposed: exposed_so_far(self.exposed, next, action.kind),
         }
     }
 
-    // The verdict where the run stops by this number, with its last state.
-    pub(crate) fn verdict(self, number: u8, last: State) -> Verdict
-        ensures { λ r. ⌜ r ≡ refusedBy (soFar self last) number ⌝ }
+    // The verdict where the run stops at this byte by this number, with its last state.
+    pub(crate) fn verdict(self, number: u8, at: usize, last: State) -> Verdict
+        ensures { λ r. ⌜ r ≡ verdictAt self number at last ⌝ }
     {
         Verdict {
-            accepted: self.accepted,
+            tally: self,
             refusal: number,
-            at: self.at,
-            weak: self.weak,
-            strong: self.strong,
-            exposed: self.exposed,
+            at: at,
             state: last,
         }
     }
@@ -135,17 +127,8 @@ impl Progress {
 impl Verdict {
     // The verdict of a run that is refused by its length or its configuration.
     pub(crate) fn unopened(number: u8) -> Verdict
-        ensures { λ r. ⌜ r ≡ verdictOf 0 number 0 0 0 0 zeroState ⌝ }
+        ensures { λ r. ⌜ r ≡ unopened number ⌝ }
     {
-        let zero = State::zero();
-        Verdict {
-            accepted: 0,
-            refusal: number,
-            at: 0,
-            weak: 0,
-            strong: 0,
-            exposed: 0,
-            state: zero,
-        }
+        Tally::none().verdict(number, 0, State::zero())
     }
 }

@@ -1,4 +1,4 @@
-// Judges a run: records of six bytes, the first a configuration, the others actions.
+// Judges a run: a configuration of six bytes, and then records of six bytes, each of an action.
 mod judging;
 mod record;
 
@@ -8,30 +8,36 @@ ghost use Prim.Native.Nat.{_≤_};
 ghost use lib.ListN.{length};
 ghost use Rattle.cluster.specs.State.{tidy};
 ghost use Rattle.cluster.specs.Rules.{rules};
-ghost use Rattle.runs.specs.Run.{recordWidth, longestRun, recordsOf, traceFrom, weakHolds, strongHolds, verdictFrom, judge};
-use crate::judging::Progress;
+ghost use Rattle.runs.specs.Run.{configurationWidth, longestRun, recordsOf, traceFrom, weakHolds, strongHolds, verdictFrom, judge};
 use cluster::State;
 use parts::refusal::ACCEPTED;
 use parts::refusal::RUN_TOO_LONG;
 use parts::refusal::TOO_SHORT;
 
-// How many bytes a record has.
+// How many bytes the configuration has, and how many the record of an action.
+const CONFIGURATION_WIDTH: usize = 6;
+
 const RECORD_WIDTH: usize = 6;
 
 // The most bytes that a run may have.
 pub const LONGEST_RUN: usize = 65532;
 
-// The verdict of a run: how many actions were accepted; the refusal, or 0; the byte where the refused record starts, the length
-// of the run where none is refused, 0 where the run is too long; how many actions were accepted when weak ISR, and when strong
-// ISR, first failed, or 0; the greatest high watermark of any presuming replica in any state; the last state, all zeros where no
-// configuration was accepted.
-pub struct Verdict {
+// What is counted over a run: how many actions were accepted; how many were accepted when weak ISR, and when strong ISR, first
+// failed, or 0; the greatest high watermark of any presuming replica in any state.
+pub struct Tally {
     pub accepted: usize,
-    pub refusal: u8,
-    pub at: usize,
     pub weak: usize,
     pub strong: usize,
     pub exposed: u8,
+}
+
+// The verdict of a run: what is counted over it; the refusal, or 0; the byte where the refused record starts, the length of the run
+// where none is refused, 0 where the run is too long; the last state. Where no configuration was accepted, nothing is counted, and
+// the state is all zeros.
+pub struct Verdict {
+    pub tally: Tally,
+    pub refusal: u8,
+    pub at: usize,
     pub state: State,
 }
 
@@ -42,10 +48,10 @@ pub fn judge(run: &[u8]) -> Verdict
     if LONGEST_RUN < run.len() {
         return Verdict::unopened(RUN_TOO_LONG);
     }
-    if run.len() < RECORD_WIDTH {
+    if run.len() < CONFIGURATION_WIDTH {
         return Verdict::unopened(TOO_SHORT);
     }
-    let first = record::configure(&run[0..RECORD_WIDTH]);
+    let first = record::configure(&run[0..CONFIGURATION_WIDTH]);
     if first.refusal != ACCEPTED {
         return Verdict::unopened(first.refusal);
     }
@@ -53,33 +59,34 @@ pub fn judge(run: &[u8]) -> Verdict
 }
 
 // The verdict from the configuration's fresh state on. The caller shows that the run is neither too long nor too short, that the
-// state meets the rules and is tidy, and that weak and strong ISR hold of it. Each record goes to its readers as its own part of the
+// state meets the rules and is tidy, and that weak and strong ISR hold of it. Each record goes to its reader as its own part of the
 // run; the rules are not tested and no room is tidied again, since an accepted action keeps both; weak and strong ISR are asked only
 // of what the action can have changed, and what is exposed only after kinds 2 and 7.
 fn judge_actions(run: &[u8], fresh: State) -> Verdict
     requires { ⌜ length (now run) ≤ longestRun ⌝ }
-    requires { ⌜ recordWidth ≤ length (now run) ⌝ }
+    requires { ⌜ configurationWidth ≤ length (now run) ⌝ }
     requires { ⌜ rules fresh ≡ true ⌝ }
     requires { ⌜ tidy fresh ≡ fresh ⌝ }
     requires { ⌜ weakHolds fresh ≡ true ⌝ }
     requires { ⌜ strongHolds fresh ≡ true ⌝ }
-    ensures { λ r. ⌜ r ≡ verdictFrom fresh (traceFrom fresh recordWidth (recordsOf (now (run .entry)))) ⌝ }
+    ensures { λ r. ⌜ r ≡ verdictFrom fresh (traceFrom fresh configurationWidth (recordsOf (now (run .entry)))) ⌝ }
 {
     let mut state = fresh;
-    let mut progress = Progress::begun(fresh);
-    while progress.at < run.len() {
-        let at = progress.at;
+    let mut at = CONFIGURATION_WIDTH;
+    let mut tally = Tally::begun(fresh);
+    while at < run.len() {
         if run.len() - at < RECORD_WIDTH {
-            return progress.verdict(TOO_SHORT, state);
+            return tally.verdict(TOO_SHORT, at, state);
         }
-        let refusal = record::refusal_on(state, &run[at..at + RECORD_WIDTH]);
+        let record = record::read_action(&run[at..at + RECORD_WIDTH]);
+        let refusal = record.refusal_on(state);
         if refusal != ACCEPTED {
-            return progress.verdict(refusal, state);
+            return tally.verdict(refusal, at, state);
         }
-        let action = record::action_of(&run[at..at + RECORD_WIDTH]);
         let quorum = state.quorum;
-        state = state.effect(action);
-        progress = progress.after(quorum.isr, state, action);
+        state = state.effect(record.action);
+        tally = tally.after(quorum.isr, state, record.action);
+        at = at + RECORD_WIDTH;
     }
-    progress.verdict(ACCEPTED, state)
+    tally.verdict(ACCEPTED, at, state)
 }

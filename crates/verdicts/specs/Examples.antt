@@ -4,7 +4,7 @@ use mathlib.Core.Path.{_≡_, refl}
 use mathlib.Core.List.{List, [], _∷_, flatten}
 use Rattle.logic.specs.Tests.{allBelow, every, firstFailing}
 use Rattle.logic.specs.Table.{table, tableFrom}
-use Rattle.logic.specs.Refuse.{refuse}
+use Rattle.logic.specs.Refuse.{refuse, firstRefusal, byRefusal}
 use Rattle.logic.specs.Greatest.{greatestBelow, greatestOf}
 use Rattle.logic.specs.Search.{orElse, firstBelow, passing, firstThird, firstSecond, firstTriple}
 use Rattle.logic.specs.Pieces.{piecesUpTo, pieces}
@@ -18,8 +18,8 @@ use Rattle.replica.specs.Change.{withHw, withEnd, withRequest, append, truncate
 use Rattle.replica.specs.Log.{recordInUse, logInUse, recordsAgree, recordAgrees, logsAgree, sameRecord, holdSameRecord}
 use Rattle.cluster.specs.declared.State.{State}
 use Rattle.cluster.specs.State.{replicaAt, withReplicas, withReplica, withNextRecordId, controllerUpdateIsr, tidy}
-use Rattle.cluster.specs.Rules.{between, inRange, rule1, leaderAndIsrInRange, replicaInRange, rule2, quorumMatchesRequest, rule3, rule4, replicaMatchesRequest, replicaMeetsS5, rule5, rule6, agreesWithAll, rule7, rules}
-use Rattle.cluster.specs.Fresh.{freshState, fresh}
+use Rattle.cluster.specs.Rules.{between, inRange, rule1, leaderAndIsrInRange, replicaInRange, rule2, quorumMatchesRequest, rule3, rule4, replicaMatchesRequest, replicaMeetsS5, rule5, rule6, agreesWithAll, rule7, brokenRule, ruleRefusal, stateRefusal}
+use Rattle.cluster.specs.Fresh.{freshState, limitsRefusal, fresh}
 use Rattle.cluster.specs.Actions.{replicaPresumesLeadership, replicaIsFollowing, epochsUsedUp, requestMissing, epochNotAbove, controllerShrinkIsrRefusal, shrinkBy, controllerShrinkIsr, controllerElectLeaderRefusal, controllerElectLeader, leaderRefusal, becomeLeaderRefusal, leadBy, becomeLeader, becomeFollowerRefusal, becomeFollower, becomeFollowerAndTruncateToHw, leaderWriteRefusal, leaderWrite, memberHasHw, leaderIncHighWatermarkRefusal, leaderIncHighWatermark, followerReplicateRefusal, followerReplicate}
 use Rattle.cluster.specs.Act.{kindOf, uses, operandBound, operandBounds, operandsFit, tableRefusal, tableEffect, actionRefusal, effect, answerBy, refusal, act}
 use Rattle.questions.specs.Isr.{isrAsked, offsetsAsked, differAt, smallestFailure, isrAnswerOf, checkIsr, askIsr}
@@ -28,7 +28,7 @@ use Rattle.images.specs.ImageExample.{paperReplica, paperState}
 use Rattle.representatives.specs.Representative.{representative}
 use Rattle.representatives.specs.RepresentativeExample.{example-representative}
 use Rattle.runs.specs.declared.Verdict.{Verdict}
-use Rattle.runs.specs.Run.{configurationMark, actionMark, recordRefusal, recordAnswer, configure, actOn, opening, traceBy, traceFrom, verdictOf, lastOf, judgeBy, judge}
+use Rattle.runs.specs.Run.{configurationMark, actionMark, markRefusal, recordRefusal, configure, actOn, lengthRefusal, opening, traceBy, traceFrom, lastOf, judgeBy, judge}
 
 -- ---- the records of the examples, in their words
 -- "4B 43, R, L, M, X"
@@ -71,7 +71,7 @@ verdict records = judge (flatten records)
 abbrev pub numbers : List (List ℕ) → List ℕ
 numbers records =
     let v : Verdict = verdict records in
-    v .accepted ∷ v .refusal ∷ v .at ∷ v .weak ∷ v .strong ∷ v .exposed ∷ []
+    v .tally .accepted ∷ v .refusal ∷ v .at ∷ v .tally .weak ∷ v .tally .strong ∷ v .tally .exposed ∷ []
 
 -- the run of example 1
 abbrev pub paperRun : List (List ℕ)
@@ -96,7 +96,8 @@ pub record MarkedExamples : Type 0 where
       ∷ 75 ∷ 65 ∷ 8 ∷ 1 ∷ 0 ∷ 0
       ∷ 75 ∷ 65 ∷ 7 ∷ 0 ∷ 0 ∷ 0
       ∷ []
-  pub one : verdict paperRun ≡ verdictOf 6 17 42 0 0 0 paperState
+  pub one : verdict paperRun
+      ≡ record { tally = record { accepted = 6; weak = 0; strong = 0; exposed = 0 }; refusal = 17; at = 42; state = paperState }
   -- 2. "its last state's representative has replicas 1 and 2 exchanged"
   pub two : representative (verdict paperRun .state) ≡ exchanged (verdict paperRun .state)
   -- 3. "insert 4B4108020000 before its last record: all 8 accepted, exposed 1"
@@ -125,19 +126,20 @@ pub record MarkedExamples : Type 0 where
   pub nine : numbers (configuration 2 4 4 0 ∷ elect 0 ∷ shrink 0 ∷ []) ≡ 1 ∷ 4 ∷ 12 ∷ 0 ∷ 0 ∷ 0 ∷ []
 
 pub marked-examples : MarkedExamples
-unfolding judge judgeBy lastOf traceFrom traceBy opening actOn configure recordAnswer recordRefusal paperState paperReplica
-    exposed askIsr checkIsr isrAnswerOf smallestFailure differAt offsetsAsked isrAsked fresh freshState act refusal answerBy
-    effect actionRefusal tableEffect tableRefusal operandsFit operandBounds operandBound uses kindOf followerReplicate
-    followerReplicateRefusal leaderIncHighWatermark leaderIncHighWatermarkRefusal memberHasHw leaderWrite leaderWriteRefusal
-    becomeFollowerAndTruncateToHw becomeFollower becomeFollowerRefusal becomeLeader leadBy becomeLeaderRefusal leaderRefusal
-    controllerElectLeader controllerElectLeaderRefusal controllerShrinkIsr shrinkBy controllerShrinkIsrRefusal epochNotAbove
-    requestMissing epochsUsedUp replicaIsFollowing replicaPresumesLeadership rules rule7 agreesWithAll rule6 rule5 replicaMeetsS5
-    replicaMatchesRequest rule4 rule3 quorumMatchesRequest rule2 replicaInRange leaderAndIsrInRange rule1 inRange between tidy
-    controllerUpdateIsr withNextRecordId withReplica holdSameRecord sameRecord logsAgree recordAgrees recordsAgree logInUse
-    recordInUse becomeFollowerAndTruncateTo truncateUnder truncateTo append withRequest withEnd withHw tidyReplica leaderInIsr
-    leaderBelow sameLeader epochUsed lastEpoch higherEpoch sameEpoch isAlone noOther without isrOf isrBelow fullIsr member marked
-    flatten pieces piecesUpTo firstTriple firstSecond firstThird passing firstBelow orElse greatestOf greatestBelow refuse table
-    tableFrom firstFailing every allBelow
+unfolding judge judgeBy lastOf traceFrom traceBy opening lengthRefusal actOn configure recordRefusal markRefusal paperState
+    paperReplica exposed askIsr checkIsr isrAnswerOf smallestFailure differAt offsetsAsked isrAsked fresh limitsRefusal
+    freshState act refusal answerBy effect actionRefusal tableEffect tableRefusal operandsFit operandBounds operandBound uses
+    kindOf followerReplicate followerReplicateRefusal leaderIncHighWatermark leaderIncHighWatermarkRefusal memberHasHw
+    leaderWrite leaderWriteRefusal becomeFollowerAndTruncateToHw becomeFollower becomeFollowerRefusal becomeLeader leadBy
+    becomeLeaderRefusal leaderRefusal controllerElectLeader controllerElectLeaderRefusal controllerShrinkIsr shrinkBy
+    controllerShrinkIsrRefusal epochNotAbove requestMissing epochsUsedUp replicaIsFollowing replicaPresumesLeadership
+    stateRefusal ruleRefusal brokenRule rule7 agreesWithAll rule6 rule5 replicaMeetsS5 replicaMatchesRequest rule4 rule3
+    quorumMatchesRequest rule2 replicaInRange leaderAndIsrInRange rule1 inRange between tidy controllerUpdateIsr
+    withNextRecordId withReplica holdSameRecord sameRecord logsAgree recordAgrees recordsAgree logInUse recordInUse
+    becomeFollowerAndTruncateTo truncateUnder truncateTo append withRequest withEnd withHw tidyReplica leaderInIsr leaderBelow
+    sameLeader epochUsed lastEpoch higherEpoch sameEpoch isAlone noOther without isrOf isrBelow fullIsr member marked flatten
+    pieces piecesUpTo firstTriple firstSecond firstThird passing firstBelow orElse greatestOf greatestBelow refuse firstRefusal
+    byRefusal table tableFrom firstFailing every allBelow
 marked-examples =
     record {
       one-bytes = refl;

@@ -5,16 +5,16 @@ use mathlib.Core.Path.{_≡_, refl}
 use mathlib.Core.List.{List, [], _∷_, flatten}
 use Rattle.logic.specs.Tests.{every}
 use Rattle.logic.specs.Table.{table, tableFrom}
-use Rattle.logic.specs.Refuse.{refuse}
+use Rattle.logic.specs.Refuse.{refuse, byRefusal}
 use Rattle.logic.specs.Pieces.{piecesUpTo, pieces}
 use Rattle.parts.specs.Mark.{marked}
 use Rattle.cluster.specs.Rules.{between, inRange}
-use Rattle.cluster.specs.Fresh.{freshState, fresh}
+use Rattle.cluster.specs.Fresh.{freshState, limitsRefusal, fresh}
 use Rattle.cluster.specs.Act.{kindOf, uses}
-use Rattle.runs.specs.Run.{recordRefusal, recordAnswer, configure, opening}
+use Rattle.runs.specs.Run.{markRefusal, recordRefusal, configure, lengthRefusal, opening}
 use Rattle.renamings.specs.Names.{newName}
 use Rattle.renamings.specs.Rename.{renameOperand, renameAction}
-use Rattle.verdicts.specs.RenameRun.{renameRecordBy, renameRecord, renameRunBy, renameRun}
+use Rattle.verdicts.specs.RenameRun.{renameRecord, renameRun}
 use Rattle.verdicts.specs.Examples.{configuration, action, elect, leader, follower, replicate}
 
 -- the renaming that exchanges 0 and 1
@@ -37,11 +37,13 @@ pub exchanged-run : renameRun exchange
     ≡ flatten
     (configuration 2 4 4 3 ∷ elect 1 ∷ elect 1 ∷ elect 0 ∷ elect 2 ∷ replicate 1 0 ∷ follower 0 0 ∷ action 3 0 1 0 ∷ leader 1 ∷ action 9 0 1 0
     ∷ configuration 0 1 1 1 ∷ unmarked ∷ torn ∷ [])
-unfolding renameRun renameRunBy renameRecord renameRecordBy renameAction renameOperand newName opening configure recordAnswer
-    recordRefusal fresh freshState inRange between flatten pieces piecesUpTo marked refuse uses kindOf every table tableFrom
+unfolding renameRun renameRecord renameAction renameOperand newName opening lengthRefusal configure recordRefusal markRefusal
+    fresh limitsRefusal freshState inRange between flatten pieces piecesUpTo marked refuse byRefusal uses kindOf every table
+    tableFrom
 exchanged-run = refl
 
 -- a run whose configuration is refused stays
 pub refused-run-stays : renameRun exchange (flatten (configuration 6 4 4 3 ∷ elect 0 ∷ [])) ≡ flatten (configuration 6 4 4 3 ∷ elect 0 ∷ [])
-unfolding renameRun renameRunBy opening configure recordAnswer recordRefusal fresh inRange between flatten marked refuse every
+unfolding renameRun opening lengthRefusal configure recordRefusal markRefusal fresh limitsRefusal inRange between flatten marked
+    refuse byRefusal every
 refused-run-stays = refl

@@ -1,16 +1,18 @@
 -- A run and a verdict under a renaming. "In a run whose configuration is accepted, with its R, each whole six-byte record with the
 -- action mark is renamed so, after a refused record too, and no other byte; any other run stays as it is." Assumes nothing.
-use Prim.Native.Nat.{ℕ, zero, suc, _≤_}
+use Prim.Native.Nat.{ℕ, _≤_}
 use mathlib.Core.Path.{_≡_}
 use mathlib.Core.Bool.{true}
-use mathlib.Core.List.{List, map, flatten}
+use mathlib.Core.List.{List, _++_, map, flatten}
 use lib.ListN.{set}
-use Rattle.logic.specs.Pieces.{pieces}
+use Rattle.logic.specs.Refuse.{byRefusal}
 use Rattle.parts.specs.Refusal.{accepted}
 use Rattle.cluster.specs.declared.Action.{Action}
+use Rattle.cluster.specs.declared.ActionAnswer.{ActionAnswer}
 use Rattle.cluster.specs.State.{replicaCount}
+use Rattle.cluster.specs.Act.{actionAnswer}
 use Rattle.runs.specs.declared.Verdict.{Verdict}
-use Rattle.runs.specs.Run.{recordWidth, actionMark, recordRefusal, actionIn, opening, verdictOf}
+use Rattle.runs.specs.Run.{recordWidth, actionMark, recordRefusal, actionIn, configurationOf, recordsOf, opening, Step, Trace}
 use Rattle.renamings.specs.Names.{newName, isRenaming}
 use Rattle.renamings.specs.Rename.{renameAction, renamed}
 
@@ -19,28 +21,24 @@ use Rattle.renamings.specs.Rename.{renameAction, renamed}
 abbrev pub withOperands : List ℕ → Action → List ℕ
 withOperands bytes action = set (set bytes 3 (action .a)) 4 (action .b)
 
--- by what the record's length and its mark answer: at 0 the operands are put anew, else the bytes stay
-unfoldable pub renameRecordBy : ℕ → List ℕ → Action → List ℕ
-renameRecordBy zero bytes action = withOperands bytes action
-renameRecordBy (suc k) bytes action = bytes
-
--- a record of n replicas: used replica operands below n are renamed
+-- a record of n replicas: where it is whole, used replica operands below n are renamed; any other stays
 unfoldable pub renameRecord : ℕ → (ℕ → ℕ) → List ℕ → List ℕ
-renameRecord n to bytes = renameRecordBy (recordRefusal actionMark bytes) bytes (renameAction n to (actionIn bytes))
+renameRecord n to bytes =
+    byRefusal (recordRefusal recordWidth actionMark bytes) (λ number. bytes) (withOperands bytes (renameAction n to (actionIn bytes)))
 
 -- ---- a run
--- by the number that its length and its configuration answer: at 0 each of its records is renamed, else it stays
-unfoldable pub renameRunBy : ℕ → ℕ → (ℕ → ℕ) → List ℕ → List ℕ
-renameRunBy zero n to run = flatten (map (renameRecord n to) (pieces recordWidth run))
-renameRunBy (suc k) n to run = run
-
 -- the R of the run's configuration
 abbrev pub replicasOf : List ℕ → ℕ
 replicasOf run = replicaCount (opening run .state .limits)
 
--- the run under the five places p
+-- its records, renamed
+abbrev pub renamedRecords : List ℕ → List ℕ → List (List ℕ)
+renamedRecords p run = map (renameRecord (replicasOf run) (newName p)) (recordsOf run)
+
+-- the run under the five places p: the configuration stays, and behind it are the records, renamed; where the configuration is not
+-- accepted, the run stays
 unfoldable pub renameRun : List ℕ → List ℕ → List ℕ
-renameRun p run = renameRunBy (opening run .refusal) (replicasOf run) (newName p) run
+renameRun p run = byRefusal (opening run .refusal) (λ number. run) (configurationOf run ++ flatten (renamedRecords p run))
 
 -- p is a renaming of the run's R; where no configuration is accepted, of any R from 1 to 5
 pub record RenamesRun (run p : List ℕ) : Type 0 where
@@ -50,6 +48,17 @@ pub record RenamesRun (run p : List ℕ) : Type 0 where
   pub own : opening run .refusal ≡ accepted → replicasOf run ≡ count
   pub renaming : isRenaming count p ≡ true
 
+-- ---- a trace of n replicas: each action and each answer is renamed; the numbers stay
+-- an answer: its number stays, and its state is renamed
+abbrev pub renameAnswer : List ℕ → ActionAnswer → ActionAnswer
+renameAnswer p a = actionAnswer (a .refusal) (renamed p (a .state))
+
+abbrev pub renameStep : ℕ → List ℕ → Step → Step
+renameStep n p step = record { action = renameAction n (newName p) (step .action); answer = renameAnswer p (step .answer) }
+
+abbrev pub renameTrace : ℕ → List ℕ → Trace → Trace
+renameTrace n p trace = record { steps = map (renameStep n p) (trace .steps); refusal = trace .refusal; at = trace .at }
+
 -- ---- a verdict: every number stays, and the last state is renamed
 abbrev pub renameVerdict : List ℕ → Verdict → Verdict
-renameVerdict p v = verdictOf (v .accepted) (v .refusal) (v .at) (v .weak) (v .strong) (v .exposed) (renamed p (v .state))
+renameVerdict p v = record { tally = v .tally; refusal = v .refusal; at = v .at; state = renamed p (v .state) }

@@ -3,63 +3,33 @@
 use Prim.Native.Nat.{ℕ, zero, suc, _≤_, _<_}
 use mathlib.Core.Path.{_≡_, refl, sym, ap, _∙_}
 use mathlib.Core.Bool.{Bool, true}
-use mathlib.Core.List.{List, [], _∷_, map}
+use mathlib.Core.List.{List, _∷_, map}
 use mathlib.Core.Logic.{_↔_}
 use native.Mathlib.Omega.{arith}
 use lib.ListN.{length, getD, length-map}
-use Rattle.logic.specs.Each.{each-at}
 use Rattle.logic.specs.Tests.{true-false, every-at, firstFailing, failing-zero, failing-at}
 use Rattle.logic.specs.Greatest.{greatestOf, greatest-of-at, greatest-of-by}
 use Rattle.logic.specs.Maps.{map-at}
 use Rattle.parts.specs.Refusal.{accepted}
 use Rattle.cluster.specs.declared.State.{State}
-use Rattle.cluster.specs.declared.Outcome.{Outcome}
 use Rattle.cluster.specs.State.{replicaCount, replicaAt, zeroState}
 use Rattle.cluster.specs.Rules.{rules}
 use Rattle.cluster.specs.Actions.{replicaPresumesLeadership}
-use Rattle.actions.specs.Kept.{Kept, kept-same}
 use Rattle.questions.specs.declared.Property.{Property}
 use Rattle.questions.specs.declared.Property.the-variants as asked
-use Rattle.questions.specs.declared.IsrAnswer.{IsrAnswer}
 use Rattle.questions.specs.Isr.{askIsr}
-use Rattle.questions.specs.IsrTheorems.{fresh-holds}
 use Rattle.questions.specs.Exposed.{exposed, exposed-at, exposed-by}
 use Rattle.published.specs.KafkaReplication.{Constants, ModelState, WeakIsr, StrongIsr}
 use Rattle.published.specs.Meaning.{constantsOf, meaning}
 use Rattle.published.specs.Properties.{weak-is-published, strong-is-published}
 use Rattle.published.specs.Behaviours.{statesAfter}
 use Rattle.runs.specs.declared.Verdict.{Verdict}
-use Rattle.runs.specs.Run.{recordWidth, opening, recordsOf, weakHolds, strongHolds, judge}
-use Rattle.runs.specs.TraceLaws.{trace-kept}
-use Rattle.runs.specs.Opening.{limitsIn, firstState, opening-fresh, fresh-opened, opening-rules, opening-tidy, opened}
-use Rattle.verdicts.specs.RunBehaviour.{acceptedActions, states-are}
-
--- ---- the states of a run
--- the first one, and those that its accepted actions hand back
-abbrev pub statesOf : List ℕ → List State
-statesOf run = firstState run ∷ statesAfter (firstState run) (acceptedActions run)
-
--- the state of number n: the first one has number 0, and that which action n hands back has number n
-abbrev pub stateAt : List ℕ → ℕ → State
-stateAt run n = getD (statesOf run) n zeroState
-
--- the published constants are those of its configuration
-abbrev pub constantsIn : List ℕ → Constants
-constantsIn run = constantsOf (firstState run .limits)
+use Rattle.runs.specs.Run.{opening, weakHolds, strongHolds, judge}
+use Rattle.runs.specs.Opening.{firstState, opening-holds, opened}
+use Rattle.verdicts.specs.RunBehaviour.{acceptedActions, statesOf, stateAt, constantsIn, states-are, states-within, state-kept}
 
 -- of one whose configuration is accepted
 module _ (run : List ℕ) (ok : opening run .refusal ≡ accepted) where
-  -- its states have the numbers up to that of the accepted actions
-  within : (n : ℕ) → n ≤ judge run .accepted ↔ n < length (statesOf run)
-  within n = omega (arith, ap (λ (v : Verdict). v .accepted) (opened run ok), ap length (states-are run ok))
-
-  -- each meets S1 to S7, is tidy, and has the limits of the first
-  pub state-kept : (n : ℕ) → n ≤ judge run .accepted → Kept (firstState run) (stateAt run n)
-  state-kept n h =
-      let s : State = firstState run in
-      let kept = kept-same s (opening-rules run ok) (opening-tidy run ok) in
-      each-at (Kept s) (statesOf run) (kept, rw (← states-are run ok) (trace-kept s (recordsOf run) s recordWidth kept)) n zeroState (within n .0 h)
-
   -- ---- when a property first fails
   module _ (property : Property) where
     abbrev holds : State → Bool
@@ -75,101 +45,98 @@ module _ (run : List ℕ) (ok : opening run .refusal ≡ accepted) where
       abbrev Holds : ℕ → Type 0
       Holds n = P (constantsIn run) (meaning (stateAt run n))
 
-      answer-at : (n : ℕ) → n ≤ judge run .accepted → getD (map holds (statesOf run)) n true ≡ true ↔ Holds n
+      answer-at : (n : ℕ) → n ≤ judge run .tally .accepted → getD (map holds (statesOf run)) n true ≡ true ↔ Holds n
       answer-at n h =
-          let kept = state-kept n h in
-          rw (map-at holds (statesOf run) n zeroState true (within n .0 h), ← kept .limits) (published (stateAt run n) (kept .rules))
+          let kept = state-kept run ok n h in
+          rw (map-at holds (statesOf run) n zeroState true (states-within run ok n .0 h), ← kept .limits) (published (stateAt run n) (kept .rules))
 
       -- it holds of the fresh state
       first-holds : Holds 0
-      first-holds =
-          answer-at 0 (omega arith) .0
-          (ap (λ (o : Outcome). holds (o .state)) (opening-fresh run ok)
-          ∙ ap (λ (a : IsrAnswer). a .holds) (fresh-holds property (limitsIn run) (fresh-opened run ok)))
+      first-holds = answer-at 0 (omega arith) .0 (opening-holds run ok property)
 
       -- and up to state k where the first k answers say so
-      hold-up-to : (k : ℕ) → k ≤ judge run .accepted → ((i : ℕ) → i < k → getD answers i true ≡ true) → (n : ℕ) → n ≤ k → Holds n
+      hold-up-to : (k : ℕ) → k ≤ judge run .tally .accepted → ((i : ℕ) → i < k → getD answers i true ≡ true) → (n : ℕ) → n ≤ k → Holds n
       hold-up-to k h f zero l = first-holds
       hold-up-to k h f (suc i) l = answer-at (suc i) (omega arith) .0 (f i (omega arith))
 
       fails-at : (i : ℕ) → firstFailing 1 answers ≡ suc i
-          → (suc i ≤ judge run .accepted) × (Holds (suc i) → ⊥) × ((n : ℕ) → n ≤ i → Holds n)
+          → (suc i ≤ judge run .tally .accepted) × (Holds (suc i) → ⊥) × ((n : ℕ) → n ≤ i → Holds n)
       fails-at i e =
           let f = failing-at 0 i answers (omega arith) in
-          let l : suc i ≤ judge run .accepted = within (suc i) .1 (omega (arith, f .0, length-map (statesOf run) holds)) in
+          let l : suc i ≤ judge run .tally .accepted = states-within run ok (suc i) .1 (omega (arith, f .0, length-map (statesOf run) holds)) in
           (l, (λ p. true-false (sym (answer-at (suc i) l .1 p) ∙ f .1)), hold-up-to i (omega arith) (f .2))
 
-      by-number : ((n : ℕ) → n ≤ judge run .accepted → Holds n) → (k : ℕ) → firstFailing 1 answers ≡ k → k ≡ 0
+      by-number : ((n : ℕ) → n ≤ judge run .tally .accepted → Holds n) → (k : ℕ) → firstFailing 1 answers ≡ k → k ≡ 0
       by-number f zero e = refl
       by-number f (suc i) e = let p = fails-at i e in absurd (p .1 (f (suc i) (p .0)))
 
-      never-fails : firstFailing 1 answers ≡ 0 ↔ ((n : ℕ) → n ≤ judge run .accepted → Holds n)
+      never-fails : firstFailing 1 answers ≡ 0 ↔ ((n : ℕ) → n ≤ judge run .tally .accepted → Holds n)
       never-fails = (
-        (λ e. hold-up-to (judge run .accepted) (omega arith) (λ i l. every-at answers (failing-zero 0 answers .0 e) i)),
+        (λ e. hold-up-to (judge run .tally .accepted) (omega arith) (λ i l. every-at answers (failing-zero 0 answers .0 e) i)),
         (λ f. by-number f (firstFailing 1 answers) refl),
       )
 
   -- ---- weak ISR
-  weak-number : judge run .weak ≡ firstFailing 1 (answers asked.WeakIsr)
+  weak-number : judge run .tally .weak ≡ firstFailing 1 (answers asked.WeakIsr)
   weak-number =
-      ap (λ (v : Verdict). v .weak) (opened run ok)
+      ap (λ (v : Verdict). v .tally .weak) (opened run ok)
       ∙ ap (λ (states : List State). firstFailing 1 (map weakHolds states)) (states-are run ok)
 
   -- 0 exactly where the published WeakIsr holds of every state of the run
-  pub weak-never : judge run .weak ≡ 0 ↔ ((n : ℕ) → n ≤ judge run .accepted → WeakIsr (constantsIn run) (meaning (stateAt run n)))
+  pub weak-never : judge run .tally .weak ≡ 0 ↔ ((n : ℕ) → n ≤ judge run .tally .accepted → WeakIsr (constantsIn run) (meaning (stateAt run n)))
   weak-never = rw weak-number (never-fails asked.WeakIsr WeakIsr weak-is-published)
 
   -- otherwise the number of the first state that fails it
-  pub weak-first : (i : ℕ) → judge run .weak ≡ suc i
-      → (suc i ≤ judge run .accepted)
+  pub weak-first : (i : ℕ) → judge run .tally .weak ≡ suc i
+      → (suc i ≤ judge run .tally .accepted)
       × (WeakIsr (constantsIn run) (meaning (stateAt run (suc i))) → ⊥)
       × ((n : ℕ) → n ≤ i → WeakIsr (constantsIn run) (meaning (stateAt run n)))
   weak-first = rw weak-number (fails-at asked.WeakIsr WeakIsr weak-is-published)
 
   -- ---- strong ISR, likewise
-  strong-number : judge run .strong ≡ firstFailing 1 (answers asked.StrongIsr)
+  strong-number : judge run .tally .strong ≡ firstFailing 1 (answers asked.StrongIsr)
   strong-number =
-      ap (λ (v : Verdict). v .strong) (opened run ok)
+      ap (λ (v : Verdict). v .tally .strong) (opened run ok)
       ∙ ap (λ (states : List State). firstFailing 1 (map strongHolds states)) (states-are run ok)
 
-  pub strong-never : judge run .strong ≡ 0 ↔ ((n : ℕ) → n ≤ judge run .accepted → StrongIsr (constantsIn run) (meaning (stateAt run n)))
+  pub strong-never : judge run .tally .strong ≡ 0 ↔ ((n : ℕ) → n ≤ judge run .tally .accepted → StrongIsr (constantsIn run) (meaning (stateAt run n)))
   strong-never = rw strong-number (never-fails asked.StrongIsr StrongIsr strong-is-published)
 
-  pub strong-first : (i : ℕ) → judge run .strong ≡ suc i
-      → (suc i ≤ judge run .accepted)
+  pub strong-first : (i : ℕ) → judge run .tally .strong ≡ suc i
+      → (suc i ≤ judge run .tally .accepted)
       × (StrongIsr (constantsIn run) (meaning (stateAt run (suc i))) → ⊥)
       × ((n : ℕ) → n ≤ i → StrongIsr (constantsIn run) (meaning (stateAt run n)))
   strong-first = rw strong-number (fails-at asked.StrongIsr StrongIsr strong-is-published)
 
   -- ---- exposed
-  exposed-number : judge run .exposed ≡ greatestOf (map exposed (statesOf run))
+  exposed-number : judge run .tally .exposed ≡ greatestOf (map exposed (statesOf run))
   exposed-number =
-      ap (λ (v : Verdict). v .exposed) (opened run ok)
+      ap (λ (v : Verdict). v .tally .exposed) (opened run ok)
       ∙ ap (λ (states : List State). greatestOf (map exposed (firstState run ∷ states))) (states-are run ok)
 
   -- at least the hw of every presuming replica in every state of the run
-  pub exposed-run-at : (n : ℕ) → n ≤ judge run .accepted → (r : ℕ) → r < replicaCount (firstState run .limits)
-      → replicaPresumesLeadership (stateAt run n) r ≡ true → replicaAt (stateAt run n) r .hw ≤ judge run .exposed
+  pub exposed-run-at : (n : ℕ) → n ≤ judge run .tally .accepted → (r : ℕ) → r < replicaCount (firstState run .limits)
+      → replicaPresumesLeadership (stateAt run n) r ≡ true → replicaAt (stateAt run n) r .hw ≤ judge run .tally .exposed
   exposed-run-at n h r l p =
-      let b : n < length (map exposed (statesOf run)) = rw length-map (within n .0 h) in
+      let b : n < length (map exposed (statesOf run)) = rw length-map (states-within run ok n .0 h) in
       omega (
         arith,
-        exposed-at (stateAt run n) r (rw (state-kept n h .limits) l) p,
-        map-at exposed (statesOf run) n zeroState 0 (within n .0 h),
+        exposed-at (stateAt run n) r (rw (state-kept run ok n h .limits) l) p,
+        map-at exposed (statesOf run) n zeroState 0 (states-within run ok n .0 h),
         greatest-of-at (map exposed (statesOf run)) n b,
         exposed-number,
       )
 
   -- and at most any number that is so
   pub exposed-run-by : (k : ℕ)
-      → ((n : ℕ) → n ≤ judge run .accepted → (r : ℕ) → r < replicaCount (firstState run .limits)
+      → ((n : ℕ) → n ≤ judge run .tally .accepted → (r : ℕ) → r < replicaCount (firstState run .limits)
       → replicaPresumesLeadership (stateAt run n) r ≡ true → replicaAt (stateAt run n) r .hw ≤ k)
-      → judge run .exposed ≤ k
+      → judge run .tally .exposed ≤ k
   exposed-run-by k f =
       rw exposed-number
       (greatest-of-by (map exposed (statesOf run)) k
       (λ n b.
       let l : n < length (statesOf run) = rw length-map at b in
-      let h : n ≤ judge run .accepted = within n .1 l in
+      let h : n ≤ judge run .tally .accepted = states-within run ok n .1 l in
       rw (map-at exposed (statesOf run) n zeroState 0 l)
-      (exposed-by (stateAt run n) k (λ r c. f n h r (rw (state-kept n h .limits) at c)))))
+      (exposed-by (stateAt run n) k (λ r c. f n h r (rw (state-kept run ok n h .limits) at c)))))

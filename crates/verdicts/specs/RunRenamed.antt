@@ -3,77 +3,83 @@
 use Prim.Native.Nat.{ℕ, zero, suc, _+_, _*_, _≤_, _<_}
 use mathlib.Core.Path.{_≡_, refl, sym, ap, ap₂, _∙_}
 use mathlib.Core.Bool.{Bool, true, false, _&&_, cond}
-use mathlib.Core.List.{List, [], _∷_, _++_, map, flatten}
+use mathlib.Core.List.{List, [], _++_, map, flatten}
 use native.Mathlib.Omega.{arith}
+use native.Mathlib.Decide.{ℕ-discrete}
 use lib.Dec.{ltb}
-use lib.ListN.{length, take, drop, getD, set}
-use lib.Seq.{getD-drop, take-at, drop-at}
+use lib.ListN.{length, drop, getD, length-append, take-append-drop}
+use lib.Seq.{take-at, drop-at}
 use borrow.Author.Tests.{ltb-true}
 use Rattle.logic.specs.Tests.{and-right}
-use Rattle.logic.specs.Pieces.{pieces, pieces-more, piece-at, changed-length, pieces-again}
-use Rattle.parts.specs.Refusal.{accepted, runTooLong}
+use Rattle.logic.specs.Refuse.{by-accepted, by-refused, by-cases}
+use Rattle.logic.specs.Pieces.{pieces, piece-at, changed-length, pieces-again}
+use Rattle.parts.specs.Refusal.{accepted}
 use Rattle.parts.specs.Mark.{byteAt}
+use Rattle.parts.specs.Bytes.{Bytes, bytes-append, bytes-set, bytes-take, bytes-drop, bytes-flatten}
 use Rattle.cluster.specs.declared.Limits.{Limits}
 use Rattle.cluster.specs.declared.State.{State}
 use Rattle.cluster.specs.declared.Outcome.{Outcome}
-use Rattle.cluster.specs.State.{replicaCount, zeroState}
-use Rattle.cluster.specs.Fresh.{answer}
-use Rattle.images.specs.PartLaws.{Bytes, bytes-behind, bytes-none, bytes-more, bytes-append}
-use Rattle.runs.specs.Run.{recordWidth, longestRun, actionMark, recordRefusal, configure, actionIn, opening, recordsOf, traceFrom, verdictOf, verdictFrom, judgeBy, judge}
-use Rattle.runs.specs.Opening.{front, limitsIn, firstState, configuration-whole, opening-six, front-six, opening-in-range, opening-state, opening-limits, opening-rules, opening-tidy}
+use Rattle.cluster.specs.State.{replicaCount}
+use Rattle.runs.specs.Run.{configurationWidth, recordWidth, actionMark, recordRefusal, configure, actionIn, configurationOf, recordsOf, opening, traceFrom, noTally, verdictFrom, judge}
+use Rattle.runs.specs.Opening.{limitsIn, firstState, opening-configures, opening-short, configuration-length, opening-in-range, opening-state, opening-limits, opening-rules, opening-tidy, opened, judge-unopened}
+use Rattle.runs.specs.Judging.{verdictAt}
 use Rattle.renamings.specs.Names.{newName, isRenaming}
 use Rattle.renamings.specs.Rename.{renameOperand, renameAction, renamed, Renames}
 use Rattle.renamings.specs.Places.{renaming-iff}
 use Rattle.renamings.specs.FreshRenamed.{zero-renamed, fresh-renamed}
-use Rattle.verdicts.specs.RenameRun.{renameRecordBy, renameRecord, renameRunBy, replicasOf, renameRun, RenamesRun, renameVerdict}
-use Rattle.verdicts.specs.TraceRenamed.{record-length, configuration-stays, verdict-renamed}
+use Rattle.verdicts.specs.RenameRun.{withOperands, renameRecord, replicasOf, renamedRecords, renameRun, RenamesRun, renameVerdict}
+use Rattle.verdicts.specs.TraceRenamed.{record-length, verdict-renamed}
 
 -- ---- a renamed run
--- its length stays
-pub run-length : (run p : List ℕ) → length (renameRun p run) ≡ length run
-unfolding renameRun renameRunBy
-run-length run p = go (opening run .refusal)
-  where
-    go : (k : ℕ) → length (renameRunBy k (replicasOf run) (newName p) run) ≡ length run
-    go zero = changed-length 5 (renameRecord (replicasOf run) (newName p)) (record-length (replicasOf run) (newName p)) run
-    go (suc k) = refl
+module _ (run p : List ℕ) where
+  abbrev rename : List ℕ → List ℕ
+  rename = renameRecord (replicasOf run) (newName p)
 
--- the records behind the configuration, renamed
-abbrev renamedRecords : List ℕ → List ℕ → List (List ℕ)
-renamedRecords run p = map (renameRecord (replicasOf run) (newName p)) (recordsOf run)
+  -- where the configuration is accepted, that stays and each record behind it is renamed; any other run stays
+  run-behind : opening run .refusal ≡ accepted → renameRun p run ≡ configurationOf run ++ flatten (renamedRecords p run)
+  unfolding renameRun
+  run-behind ok = sym (by-accepted _ (λ number. run) (configurationOf run ++ flatten (renamedRecords p run)) ok)
 
--- where the configuration is accepted, it stays, and each record behind it is renamed
-module _ (run p : List ℕ) (e : opening run .refusal ≡ accepted) where
-  run-behind : renameRun p run ≡ front run ++ flatten (renamedRecords run p)
-  unfolding renameRun renameRunBy flatten
-  run-behind =
-      ap (λ (k : ℕ). renameRunBy k (replicasOf run) (newName p) run) e
-      ∙ ap (λ (l : List (List ℕ)). flatten (map (renameRecord (replicasOf run) (newName p)) l))
-      (pieces-more 5 run (omega (arith, opening-six run e)))
-      ∙ ap (λ (bytes : List ℕ). bytes ++ flatten (renamedRecords run p))
-      (configuration-stays (replicasOf run) (newName p) (front run) (configuration-whole run e))
+  run-stays : (opening run .refusal ≡ accepted → ⊥) → renameRun p run ≡ run
+  unfolding renameRun
+  run-stays h = sym (by-refused _ (λ number. run) (configurationOf run ++ flatten (renamedRecords p run)) h)
 
-  front-renamed : front (renameRun p run) ≡ front run
-  front-renamed = ap front run-behind ∙ take-at (front run) (flatten (renamedRecords run p)) recordWidth (front-six run e)
+  -- its length stays
+  pub run-length : length (renameRun p run) ≡ length run
+  unfolding renameRun
+  run-length =
+      by-cases (λ (l : List ℕ). length l ≡ length run) (opening run .refusal) (λ number. run) (configurationOf run ++ flatten (renamedRecords p run))
+      (λ ok.
+      length-append (configurationOf run) (flatten (renamedRecords p run))
+      ∙ ap (λ (k : ℕ). length (configurationOf run) + k)
+      (changed-length 5 rename (record-length (replicasOf run) (newName p)) (drop configurationWidth run))
+      ∙ sym (length-append (configurationOf run) (drop configurationWidth run))
+      ∙ ap length (take-append-drop configurationWidth run))
+      (λ h. refl)
 
-  records-renamed : recordsOf (renameRun p run) ≡ renamedRecords run p
-  records-renamed =
-      ap recordsOf run-behind
-      ∙ ap (pieces recordWidth) (drop-at (front run) (flatten (renamedRecords run p)) recordWidth (front-six run e))
-      ∙ pieces-again 5 (renameRecord (replicasOf run) (newName p)) (record-length (replicasOf run) (newName p)) (drop recordWidth run)
+  -- where it is accepted: its configuration and its records
+  module _ (ok : opening run .refusal ≡ accepted) where
+    configuration-renamed : configurationOf (renameRun p run) ≡ configurationOf run
+    configuration-renamed =
+        ap configurationOf (run-behind ok)
+        ∙ take-at (configurationOf run) (flatten (renamedRecords p run)) configurationWidth (configuration-length run ok)
 
--- its length and its configuration answer the same
-pub opening-renamed : (run p : List ℕ) → opening (renameRun p run) ≡ opening run
-opening-renamed run p = go (opening run .refusal) refl
-  where
-    go : (k : ℕ) → opening run .refusal ≡ k → opening (renameRun p run) ≡ opening run
-    go zero e =
-        unfold opening in
-        ap₂ (λ (width : ℕ) (bytes : List ℕ). cond (ltb longestRun width) (answer runTooLong zeroState) (configure bytes))
-        (run-length run p) (front-renamed run p e)
-    go (suc k) e =
-        unfold renameRun renameRunBy in
-        ap (λ (n : ℕ). opening (renameRunBy n (replicasOf run) (newName p) run)) e
+    records-renamed : recordsOf (renameRun p run) ≡ renamedRecords p run
+    records-renamed =
+        ap recordsOf (run-behind ok)
+        ∙ ap (pieces recordWidth)
+        (drop-at (configurationOf run) (flatten (renamedRecords p run)) configurationWidth (configuration-length run ok))
+        ∙ pieces-again 5 rename (record-length (replicasOf run) (newName p)) (drop configurationWidth run)
+
+  -- its length and its configuration answer the same
+  pub opening-renamed : opening (renameRun p run) ≡ opening run
+  opening-renamed =
+      elim (ℕ-discrete (opening run .refusal) accepted) [
+        | yes ok ↦ opening-configures (renameRun p run) (rw run-length (opening-short run ok))
+            ∙ ap configure (configuration-renamed ok)
+            ∙ sym (opening-configures run (opening-short run ok))
+        | no h ↦ ap opening (run-stays h)
+      ]
 
 -- ---- its verdict
 module _ (run p : List ℕ) (r : RenamesRun run p) where
@@ -93,48 +99,28 @@ module _ (run p : List ℕ) (r : RenamesRun run p) where
         (ap (λ (c : Limits). isRenaming (replicaCount c) p) (sym (opening-limits run e)) ∙ renames-start)
         ∙ sym e₀
 
-    opened-verdict : verdictFrom start (traceFrom start recordWidth (renamedRecords run p))
-        ≡ renameVerdict p (verdictFrom start (traceFrom start recordWidth (recordsOf run)))
+    opened-verdict : verdictFrom start (traceFrom start configurationWidth (renamedRecords p run))
+        ≡ renameVerdict p (verdictFrom start (traceFrom start configurationWidth (recordsOf run)))
     opened-verdict =
-        ap (λ (s : State). verdictFrom s (traceFrom s recordWidth (renamedRecords run p))) (sym start-stays)
-        ∙ verdict-renamed start p renames-start (opening-rules run e) (opening-tidy run e) recordWidth (recordsOf run)
-
-  -- by the number that its length and its configuration answer
-  by-opening : (k : ℕ) → opening run .refusal ≡ k
-      → judgeBy k start (recordsOf (renameRun p run)) ≡ renameVerdict p (judgeBy k start (recordsOf run))
-  unfolding judgeBy
-  by-opening zero e =
-      ap (λ (records : List (List ℕ)). verdictFrom start (traceFrom start recordWidth records)) (records-renamed run p e) ∙ opened-verdict e
-  by-opening (suc k) e = ap (verdictOf 0 (suc k) 0 0 0 0) (sym (zero-renamed (r .count) (r .few) p (r .renaming)))
+        ap (λ (s : State). verdictFrom s (traceFrom s configurationWidth (renamedRecords p run))) (sym start-stays)
+        ∙ verdict-renamed start p renames-start (opening-rules run e) (opening-tidy run e) configurationWidth (recordsOf run)
 
 -- demand 3: "a run of any bytes, renamed throughout, stops at the same byte with the same numbers and the renamed last state"
 pub run-renamed : (run p : List ℕ) → RenamesRun run p → judge (renameRun p run) ≡ renameVerdict p (judge run)
-unfolding judge
 run-renamed run p r =
-    ap (λ (o : Outcome). judgeBy (o .refusal) (o .state) (recordsOf (renameRun p run))) (opening-renamed run p)
-    ∙ by-opening run p r (opening run .refusal) refl
+    let number : opening (renameRun p run) .refusal ≡ opening run .refusal = ap (λ (o : Outcome). o .refusal) (opening-renamed run p) in
+    elim (ℕ-discrete (opening run .refusal) accepted) [
+      | yes ok ↦ opened (renameRun p run) (number ∙ ok)
+          ∙ ap₂ (λ (o : Outcome) (records : List (List ℕ)). verdictFrom (o .state) (traceFrom (o .state) configurationWidth records))
+          (opening-renamed run p) (records-renamed run p ok)
+          ∙ opened-verdict run p r ok
+          ∙ ap (renameVerdict p) (sym (opened run ok))
+      | no h ↦ judge-unopened (renameRun p run) (λ q. h (sym number ∙ q))
+          ∙ ap₂ (λ (k : ℕ) (s : State). verdictAt noTally k 0 s) number (sym (zero-renamed (r .count) (r .few) p (r .renaming)))
+          ∙ ap (renameVerdict p) (sym (judge-unopened run h))
+    ]
 
 -- ---- its bytes
--- bytes with one put anew, and the front and the rest of bytes, are bytes
-bytes-set : (bs : List ℕ) (i v : ℕ) → v < 256 → Bytes bs → Bytes (set bs i v)
-bytes-set [] i v l h = bytes-none
-bytes-set (b ∷ bs) zero v l h = bytes-more v bs l (bytes-behind (b ∷ []) bs h)
-bytes-set (b ∷ bs) (suc i) v l h = bytes-more b (set bs i v) (h .byte 0) (bytes-set bs i v l (bytes-behind (b ∷ []) bs h))
-
-bytes-take : (n : ℕ) (bs : List ℕ) → Bytes bs → Bytes (take n bs)
-bytes-take zero bs h = bytes-none
-bytes-take (suc n) [] h = bytes-none
-bytes-take (suc n) (b ∷ bs) h = bytes-more b (take n bs) (h .byte 0) (bytes-take n bs (bytes-behind (b ∷ []) bs h))
-
-bytes-drop : (n : ℕ) (bs : List ℕ) → Bytes bs → Bytes (drop n bs)
-bytes-drop n bs h = record { byte = λ i. rw (getD-drop n bs i 0) (h .byte (n + i)) }
-
--- and so are changed pieces put together, where each is bytes
-bytes-flatten : (f : List ℕ → List ℕ) (l : List (List ℕ)) → ((k : ℕ) → Bytes (f (getD l k []))) → Bytes (flatten (map f l))
-unfolding flatten
-bytes-flatten f [] h = bytes-none
-bytes-flatten f (piece ∷ l) h = bytes-append (f piece) (flatten (map f l)) (h 0) (bytes-flatten f l (λ k. h (suc k)))
-
 -- under a renaming of at most five replicas
 module _ (n : ℕ) (p : List ℕ) (five : n ≤ 5) (r : isRenaming n p ≡ true) where
   -- an operand stays a byte: a new name is below five
@@ -147,26 +133,27 @@ module _ (n : ℕ) (p : List ℕ) (five : n ≤ 5) (r : isRenaming n p ≡ true)
       go false e = h
 
   record-bytes : (bytes : List ℕ) → Bytes bytes → Bytes (renameRecord n (newName p) bytes)
-  unfolding renameRecord renameRecordBy renameAction
-  record-bytes bytes h = go (recordRefusal actionMark bytes)
-    where
-      go : (k : ℕ) → Bytes (renameRecordBy k bytes (renameAction n (newName p) (actionIn bytes)))
-      go zero =
-          bytes-set _ 4 _ (operand-byte _ (byteAt bytes 4) (h .byte 4))
-          (bytes-set bytes 3 _ (operand-byte _ (byteAt bytes 3) (h .byte 3)) h)
-      go (suc k) = h
+  unfolding renameRecord renameAction
+  record-bytes bytes h =
+      by-cases Bytes (recordRefusal recordWidth actionMark bytes) (λ number. bytes) (withOperands bytes (renameAction n (newName p) (actionIn bytes)))
+      (λ e.
+      bytes-set _ 4 _ (operand-byte _ (byteAt bytes 4) (h .byte 4))
+      (bytes-set bytes 3 _ (operand-byte _ (byteAt bytes 3) (h .byte 3)) h))
+      (λ e. h)
 
 -- a renamed run of bytes is a run of bytes
 pub run-bytes : (run p : List ℕ) → RenamesRun run p → Bytes run → Bytes (renameRun p run)
-unfolding renameRun renameRunBy
-run-bytes run p r h = go (opening run .refusal) refl
+unfolding renameRun
+run-bytes run p r h =
+    by-cases Bytes (opening run .refusal) (λ number. run) (configurationOf run ++ flatten (renamedRecords p run))
+    (λ e.
+    bytes-append (configurationOf run) (flatten (renamedRecords p run)) (bytes-take configurationWidth run h)
+    (rw (r .own e)
+    (bytes-flatten (renameRecord (r .count) (newName p)) (recordsOf run)
+    (λ k. record-bytes (r .count) p (r .few) (r .renaming) (getD (recordsOf run) k []) (piece k)))))
+    (λ e. h)
   where
-    piece : (k : ℕ) → Bytes (getD (pieces recordWidth run) k [])
-    piece k = rw (piece-at 5 k run) (bytes-take recordWidth _ (bytes-drop (recordWidth * k) run h))
-
-    go : (k : ℕ) → opening run .refusal ≡ k → Bytes (renameRunBy k (replicasOf run) (newName p) run)
-    go zero e =
-        rw (r .own e)
-        (bytes-flatten (renameRecord (r .count) (newName p)) (pieces recordWidth run)
-        (λ k. record-bytes (r .count) p (r .few) (r .renaming) (getD (pieces recordWidth run) k []) (piece k)))
-    go (suc k) e = h
+    piece : (k : ℕ) → Bytes (getD (recordsOf run) k [])
+    piece k =
+        rw (piece-at 5 k (drop configurationWidth run))
+        (bytes-take recordWidth _ (bytes-drop (recordWidth * k) (drop configurationWidth run) (bytes-drop configurationWidth run h)))

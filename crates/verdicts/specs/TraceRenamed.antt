@@ -1,38 +1,35 @@
 -- The records of a run under a renaming, and the verdict from a state on: the renamed records on the renamed state are accepted
 -- and refused as the records on the state are, and every state on the way is the renamed one. Assumes nothing.
-use Prim.Native.Nat.{ℕ, zero, suc, _+_, _≤_}
+use Prim.Native.Nat.{ℕ, _+_, _≤_}
 use mathlib.Core.Path.{_≡_, refl, sym, ap, ap₂, _∙_}
 use mathlib.Core.Bool.{true}
 use mathlib.Core.List.{List, [], _∷_, map}
 use mathlib.Core.Logic.{_≢_}
 use native.Mathlib.Omega.{arith}
-use lib.Dec.{eqb}
+use native.Mathlib.Decide.{ℕ-discrete}
 use lib.ListN.{length, set, length-set, length-map}
 use lib.Seq.{getD-set-same, getD-set-other}
-use borrow.Author.Tests.{le-ltb, eqb-true}
-use Rattle.logic.specs.Tests.{and-right, and-no}
 use Rattle.logic.specs.Each.{Each, map-unseen}
-use Rattle.logic.specs.Refuse.{refuse}
+use Rattle.logic.specs.Refuse.{by-accepted, by-refused, by-cases}
 use Rattle.parts.specs.Refusal.{accepted}
-use Rattle.parts.specs.Mark.{byteAt, markFirst, marked}
+use Rattle.parts.specs.Mark.{byteAt, marked}
 use Rattle.cluster.specs.declared.Limits.{Limits}
 use Rattle.cluster.specs.declared.State.{State}
 use Rattle.cluster.specs.declared.Action.{Action}
-use Rattle.cluster.specs.declared.Outcome.{Outcome}
+use Rattle.cluster.specs.declared.ActionAnswer.{ActionAnswer}
 use Rattle.cluster.specs.State.{replicaCount, tidy}
 use Rattle.cluster.specs.Rules.{rules}
-use Rattle.cluster.specs.Fresh.{answer}
 use Rattle.cluster.specs.Act.{actionOf, act}
 use Rattle.actions.specs.Kept.{Kept, kept-same}
 use Rattle.questions.specs.declared.Property.the-variants.{WeakIsr, StrongIsr}
 use Rattle.questions.specs.Exposed.{exposed}
-use Rattle.runs.specs.Run.{recordWidth, configurationMark, actionMark, recordRefusal, recordAnswer, actionIn, actOn, Trace, acceptedThen, traceBy, traceFrom, lastOf, weakHolds, strongHolds, verdictFrom}
-use Rattle.runs.specs.RecordLaws.{whole-record}
-use Rattle.runs.specs.TraceLaws.{kept-on, trace-kept}
+use Rattle.runs.specs.Run.{recordWidth, actionMark, markRefusal, recordRefusal, actionIn, actOn, Step, stepOn, handedBack, statesIn, Trace, stopped, stepThen, traceBy, traceFrom, weakHolds, strongHolds, lastOf, verdictFrom}
+use Rattle.runs.specs.RecordLaws.{record-whole, whole-acts, unread, accepted-whole}
+use Rattle.runs.specs.TraceLaws.{trace-accepted, trace-refused, kept-on, trace-kept}
 use Rattle.renamings.specs.Names.{newName, isRenaming}
 use Rattle.renamings.specs.Rename.{renameAction, renamed, Renames}
 use Rattle.renamings.specs.RenameTheorems.{renamed-act, renamed-holds, renamed-exposed}
-use Rattle.verdicts.specs.RenameRun.{withOperands, renameRecordBy, renameRecord, renameVerdict}
+use Rattle.verdicts.specs.RenameRun.{withOperands, renameRecord, renameAnswer, renameStep, renameTrace, renameVerdict}
 
 -- ---- a record
 module _ (bytes : List ℕ) (action : Action) where
@@ -44,8 +41,8 @@ module _ (bytes : List ℕ) (action : Action) where
   other-byte k h g = getD-set-other (set bytes 3 (action .a)) 4 k (action .b) 0 g ∙ getD-set-other bytes 3 k (action .a) 0 h
 
   -- so it is refused as before
-  operands-refusal : recordRefusal actionMark (withOperands bytes action) ≡ recordRefusal actionMark bytes
-  unfolding recordRefusal marked
+  operands-refusal : recordRefusal recordWidth actionMark (withOperands bytes action) ≡ recordRefusal recordWidth actionMark bytes
+  unfolding recordRefusal markRefusal marked
   operands-refusal = rw (operands-length, other-byte 0 (omega arith) (omega arith), other-byte 1 (omega arith) (omega arith))
 
   -- and its action has the new operands
@@ -60,102 +57,127 @@ module _ (bytes : List ℕ) (action : Action) where
         other-byte 5 (omega arith) (omega arith),
       )
 
--- a renamed record is as long
-pub record-length : (n : ℕ) (to : ℕ → ℕ) (bytes : List ℕ) → length (renameRecord n to bytes) ≡ length bytes
-unfolding renameRecord renameRecordBy
-record-length n to bytes = go (recordRefusal actionMark bytes)
-  where
-    go : (k : ℕ) → length (renameRecordBy k bytes (renameAction n to (actionIn bytes))) ≡ length bytes
-    go zero = operands-length bytes (renameAction n to (actionIn bytes))
-    go (suc k) = refl
+module _ (n : ℕ) (to : ℕ → ℕ) (bytes : List ℕ) where
+  -- a renamed record: of a whole one, and of any other
+  pub whole-renamed : recordRefusal recordWidth actionMark bytes ≡ accepted
+      → renameRecord n to bytes ≡ withOperands bytes (renameAction n to (actionIn bytes))
+  unfolding renameRecord
+  whole-renamed whole = sym (by-accepted _ (λ number. bytes) (withOperands bytes (renameAction n to (actionIn bytes))) whole)
 
--- a configuration has another mark, so it stays
-pub configuration-stays : (n : ℕ) (to : ℕ → ℕ) (bytes : List ℕ) → recordRefusal configurationMark bytes ≡ accepted
-    → renameRecord n to bytes ≡ bytes
-unfolding renameRecord renameRecordBy recordRefusal refuse marked
-configuration-stays n to bytes h =
-    let p = whole-record configurationMark bytes h in
-    let second : byteAt bytes 1 ≡ configurationMark =
-    eqb-true (byteAt bytes 1) configurationMark (and-right (eqb (byteAt bytes 0) markFirst) (eqb (byteAt bytes 1) configurationMark) (p .1)) in
-    rw (le-ltb (length bytes) recordWidth (p .0), second, and-no (eqb (byteAt bytes 0) markFirst))
+  other-stays : (recordRefusal recordWidth actionMark bytes ≡ accepted → ⊥) → renameRecord n to bytes ≡ bytes
+  unfolding renameRecord
+  other-stays torn = sym (by-refused _ (λ number. bytes) (withOperands bytes (renameAction n to (actionIn bytes))) torn)
 
--- ---- a record on a state
--- the renamed record on the renamed state gets the same number, and the state that goes with it is the first one's, renamed
+  -- it is as long
+  pub record-length : length (renameRecord n to bytes) ≡ length bytes
+  unfolding renameRecord
+  record-length =
+      by-cases (λ (l : List ℕ). length l ≡ length bytes) (recordRefusal recordWidth actionMark bytes) (λ number. bytes)
+      (withOperands bytes (renameAction n to (actionIn bytes)))
+      (λ e. operands-length bytes (renameAction n to (actionIn bytes))) (λ e. refl)
+
+-- a renamed record on the renamed state: the renamed answer
 act-on-renamed : (s : State) → rules s ≡ true → (p : List ℕ) → Renames s p → (bytes : List ℕ)
-    → actOn (renamed p s) (renameRecord (replicaCount (s .limits)) (newName p) bytes)
-    ≡ answer (actOn s bytes .refusal) (renamed p (actOn s bytes .state))
-unfolding actOn recordAnswer renameRecord renameRecordBy renameAction
-act-on-renamed s h p f bytes = go (recordRefusal actionMark bytes) refl
-  where
-    new : Action
-    new = renameAction (replicaCount (s .limits)) (newName p) (actionIn bytes)
+    → actOn (renamed p s) (renameRecord (replicaCount (s .limits)) (newName p) bytes) ≡ renameAnswer p (actOn s bytes)
+unfolding renameAction
+act-on-renamed s h p f bytes =
+    let n : ℕ = replicaCount (s .limits) in
+    let new : Action = renameAction n (newName p) (actionIn bytes) in
+    elim (ℕ-discrete (recordRefusal recordWidth actionMark bytes) accepted) [
+      | yes e ↦ ap (actOn (renamed p s)) (whole-renamed n (newName p) bytes e)
+          ∙ whole-acts (renamed p s) (withOperands bytes new) (operands-refusal bytes new ∙ e)
+          ∙ ap (act (renamed p s)) (operands-action bytes new (record-whole actionMark bytes recordWidth .0 e .0))
+          ∙ renamed-act s h p f (actionIn bytes)
+          ∙ ap (renameAnswer p) (sym (whole-acts s bytes e))
+      | no e ↦ ap (actOn (renamed p s)) (other-stays n (newName p) bytes e)
+          ∙ unread (renamed p s) bytes e
+          ∙ ap (renameAnswer p) (sym (unread s bytes e))
+    ]
 
-    go : (k : ℕ) → recordRefusal actionMark bytes ≡ k
-        → recordAnswer (recordRefusal actionMark (renameRecordBy k bytes new)) (renamed p s) (act (renamed p s) (actionIn (renameRecordBy k bytes new)))
-        ≡ answer (recordAnswer k s (act s (actionIn bytes)) .refusal) (renamed p (recordAnswer k s (act s (actionIn bytes)) .state))
-    go zero e =
-        ap₂ (λ (n : ℕ) (action : Action). recordAnswer n (renamed p s) (act (renamed p s) action))
-        (operands-refusal bytes new ∙ e) (operands-action bytes new (whole-record actionMark bytes e .0))
-        ∙ renamed-act s h p f (actionIn bytes)
-    go (suc k) e = ap (λ (n : ℕ). recordAnswer n (renamed p s) (act (renamed p s) (actionIn bytes))) e
+-- so the step of an accepted record is the renamed one
+action-renamed : (n : ℕ) (to : ℕ → ℕ) (bytes : List ℕ) → recordRefusal recordWidth actionMark bytes ≡ accepted
+    → actionIn (renameRecord n to bytes) ≡ renameAction n to (actionIn bytes)
+unfolding renameAction
+action-renamed n to bytes whole =
+    ap actionIn (whole-renamed n to bytes whole)
+    ∙ operands-action bytes (renameAction n to (actionIn bytes)) (record-whole actionMark bytes recordWidth .0 whole .0)
 
 -- ---- a trace
--- the same numbers, and each state renamed
-abbrev renameTrace : List ℕ → Trace → Trace
-renameTrace p trace = record { states = map (renamed p) (trace .states); refusal = trace .refusal; at = trace .at }
-
--- by the number of the first record: the renamed trace
-by-renamed : (p : List ℕ) (number at : ℕ) (next : State) (rest other : Trace) → other ≡ renameTrace p rest
-    → traceBy number at (renamed p next) other ≡ renameTrace p (traceBy number at next rest)
-unfolding traceBy
-by-renamed p zero at next rest other h = ap (acceptedThen (renamed p next)) h
-by-renamed p (suc k) at next rest other h = refl
-
 -- the last state
 last-renamed : (p : List ℕ) (s : State) (states : List State) → lastOf (renamed p s) (map (renamed p) states) ≡ renamed p (lastOf s states)
 unfolding lastOf
 last-renamed p s [] = refl
 last-renamed p s (t ∷ ts) = last-renamed p t ts
 
+-- the states of renamed steps
+states-renamed : (n : ℕ) (p : List ℕ) (steps : List Step) → statesIn (map (renameStep n p) steps) ≡ map (renamed p) (statesIn steps)
+states-renamed n p [] = refl
+states-renamed n p (step ∷ steps) = ap (λ (l : List State). renamed p (handedBack step) ∷ l) (states-renamed n p steps)
+
+-- by the answer of its first record
+by-renamed : (n : ℕ) (p : List ℕ) (at : ℕ) (step other : Step) (rest more : Trace)
+    → other .answer .refusal ≡ step .answer .refusal → (step .answer .refusal ≡ accepted → other ≡ renameStep n p step)
+    → more ≡ renameTrace n p rest → traceBy at other more ≡ renameTrace n p (traceBy at step rest)
+by-renamed n p at step other rest more same one all =
+    elim (ℕ-discrete (step .answer .refusal) accepted) [
+      | yes ok ↦ trace-accepted at other more (same ∙ ok)
+          ∙ ap₂ stepThen (one ok) all
+          ∙ ap (renameTrace n p) (sym (trace-accepted at step rest ok))
+      | no h ↦ trace-refused at other more (λ q. h (sym same ∙ q))
+          ∙ ap (stopped at) same
+          ∙ ap (renameTrace n p) (sym (trace-refused at step rest h))
+    ]
+
 -- ---- the trace and the verdict from a state s on, under a renaming of its replicas
 module _ (s : State) (p : List ℕ) (f : Renames s p) where
+  abbrev n : ℕ
+  n = replicaCount (s .limits)
+
   abbrev rename : List ℕ → List ℕ
-  rename = renameRecord (replicaCount (s .limits)) (newName p)
+  rename = renameRecord n (newName p)
 
   -- of a state t that keeps what s has: p is a renaming of its replicas too
   renames-on : (t : State) → Kept s t → Renames t p
   renames-on t k = ap (λ (c : Limits). isRenaming (replicaCount c) p) (k .limits) ∙ f
 
   -- a renamed record on the renamed state gets the renamed answer
-  renamed-on : (t : State) (bytes : List ℕ) → Kept s t
-      → actOn (renamed p t) (rename bytes) ≡ answer (actOn t bytes .refusal) (renamed p (actOn t bytes .state))
+  renamed-on : (t : State) (bytes : List ℕ) → Kept s t → actOn (renamed p t) (rename bytes) ≡ renameAnswer p (actOn t bytes)
   renamed-on t bytes k =
       ap (λ (c : Limits). actOn (renamed p t) (renameRecord (replicaCount c) (newName p) bytes)) (sym (k .limits))
       ∙ act-on-renamed t (k .rules) p (renames-on t k) bytes
 
+  -- and where it is accepted, its step is the renamed one
+  step-renamed : (t : State) (bytes : List ℕ) → Kept s t → actOn t bytes .refusal ≡ accepted
+      → stepOn (renamed p t) (rename bytes) ≡ renameStep n p (stepOn t bytes)
+  step-renamed t bytes k ok =
+      ap₂ {C = Step} (λ (action : Action) (a : ActionAnswer). record { action = action; answer = a })
+      (action-renamed n (newName p) bytes (accepted-whole t bytes ok)) (renamed-on t bytes k)
+
   -- the renamed records on the renamed state have the renamed trace
-  trace-renamed : (records : List (List ℕ)) (t : State) (at : ℕ) → Kept s t
-      → traceFrom (renamed p t) at (map rename records) ≡ renameTrace p (traceFrom t at records)
+  pub trace-renamed : (records : List (List ℕ)) (t : State) (at : ℕ) → Kept s t
+      → traceFrom (renamed p t) at (map rename records) ≡ renameTrace n p (traceFrom t at records)
   unfolding traceFrom
   trace-renamed [] t at k = refl
   trace-renamed (bytes ∷ records) t at k =
-      let next : State = actOn t bytes .state in
-      ap₂ (λ (o : Outcome) (width : ℕ). traceBy (o .refusal) at (o .state) (traceFrom (o .state) (at + width) (map rename records)))
-      (renamed-on t bytes k) (record-length (replicaCount (s .limits)) (newName p) bytes)
-      ∙ by-renamed p (actOn t bytes .refusal) at next (traceFrom next (at + length bytes) records)
-      (traceFrom (renamed p next) (at + length bytes) (map rename records))
-      (trace-renamed records next (at + length bytes) (kept-on s t bytes k))
+      let next : State = handedBack (stepOn t bytes) in
+      let e = renamed-on t bytes k in
+      by-renamed n p at (stepOn t bytes) (stepOn (renamed p t) (rename bytes)) (traceFrom next (at + length bytes) records) _
+      (ap (λ (a : ActionAnswer). a .refusal) e) (step-renamed t bytes k)
+      (ap₂ (λ (a : ActionAnswer) (width : ℕ). traceFrom (a .state) (at + width) (map rename records)) e (record-length n (newName p) bytes)
+      ∙ trace-renamed records next (at + length bytes) (kept-on s t bytes k))
 
   -- a renamed trace has the renamed verdict
-  of-renamed : (trace : Trace) → Each (Kept s) (s ∷ trace .states)
-      → verdictFrom (renamed p s) (renameTrace p trace) ≡ renameVerdict p (verdictFrom s trace)
+  of-renamed : (trace : Trace) → Each (Kept s) (s ∷ statesIn (trace .steps))
+      → verdictFrom (renamed p s) (renameTrace n p trace) ≡ renameVerdict p (verdictFrom s trace)
   of-renamed trace all =
+      let states : List State = statesIn (trace .steps) in
       rw (
-        length-map (trace .states) (renamed p),
-        map-unseen (Kept s) (renamed p) weakHolds (λ t k. renamed-holds t (k .rules) p (renames-on t k) WeakIsr) (trace .states) (all .1),
-        map-unseen (Kept s) (renamed p) strongHolds (λ t k. renamed-holds t (k .rules) p (renames-on t k) StrongIsr) (trace .states) (all .1),
-        map-unseen (Kept s) (renamed p) exposed (λ t k. renamed-exposed t (k .rules) p (renames-on t k)) (s ∷ trace .states) all,
-        last-renamed p s (trace .states),
+        length-map (trace .steps) (renameStep n p),
+        states-renamed n p (trace .steps),
+        map-unseen (Kept s) (renamed p) weakHolds (λ t k. renamed-holds t (k .rules) p (renames-on t k) WeakIsr) states (all .1),
+        map-unseen (Kept s) (renamed p) strongHolds (λ t k. renamed-holds t (k .rules) p (renames-on t k) StrongIsr) states (all .1),
+        map-unseen (Kept s) (renamed p) exposed (λ t k. renamed-exposed t (k .rules) p (renames-on t k)) (s ∷ states) all,
+        last-renamed p s states,
       )
 
   -- so the renamed records on the renamed state have the renamed verdict

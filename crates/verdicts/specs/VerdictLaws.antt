@@ -1,160 +1,221 @@
--- The verdict of a run: where it stops, and the bounds of its numbers.
--- Assumes nothing.
-use Prim.Native.Nat.{ℕ, _+_, _*_, _-_, _≤_, _<_, min}
+-- The verdict of a run: where it stops, which numbers refuse it, and the bounds of what is counted. Assumes nothing.
+use Prim.Native.Nat.{ℕ, _+_, _*_, _-_, _≤_, _<_, min, zero, suc}
 use mathlib.Core.Path.{_≡_, refl, sym, ap, _∙_}
-use mathlib.Core.Bool.{Bool, true, false, not, cond}
-use mathlib.Core.List.{List, map}
-use mathlib.Core.Logic.{_↔_, _≢_, _⊎_, inl, inr}
+use mathlib.Core.Bool.{Bool, true, false, not}
+use mathlib.Core.List.{List, [], _∷_, _++_, map}
+use mathlib.Core.Logic.{_↔_}
 use native.Mathlib.Omega.{arith}
 use native.Mathlib.Nat.{lt-of-not-le}
 use native.Mathlib.Decide.{ℕ-discrete}
 use lib.Dec.{ltb}
 use lib.ListN.{length, take, drop, length-take, length-drop, length-map}
 use lib.Seq.{drop-drop}
-use Rattle.logic.specs.Tests.{firstFailing, failing-within}
-use Rattle.logic.specs.Refuse.{refuse}
+use Rattle.logic.specs.Tests.{every, every-at, firstFailing, failing-within}
+use Rattle.logic.specs.Refuse.{listed, listed-refuse, listed-first, listed-within, refuse, firstRefusal}
 use Rattle.logic.specs.Pieces.{pieces-few, piece-at, front-pieces}
-use Rattle.parts.specs.Refusal.{accepted, brokenState, wrongMark, tooShort, badConfiguration, runTooLong}
+use Rattle.parts.specs.Refusal.{accepted, wrongMark, tooShort, runTooLong}
 use Rattle.parts.specs.Mark.{marked}
-use Rattle.cluster.specs.declared.Limits.{Limits}
 use Rattle.cluster.specs.declared.State.{State}
-use Rattle.cluster.specs.declared.Outcome.{Outcome}
-use Rattle.cluster.specs.State.{replicaCount, zeroState}
-use Rattle.cluster.specs.Rules.{inRange, rules}
+use Rattle.cluster.specs.State.{replicaCount}
+use Rattle.cluster.specs.Rules.{rules}
 use Rattle.cluster.specs.Predicates.{rules-iff}
-use Rattle.cluster.specs.Fresh.{freshState, answer, fresh}
-use Rattle.cluster.specs.Act.{act}
-use Rattle.actions.specs.Answers.{act-number, refusal-small, refusal-met}
+use Rattle.cluster.specs.Fresh.{fresh}
+use Rattle.cluster.specs.FreshLaws.{freshNumbers, fresh-listed}
+use Rattle.cluster.specs.Act.{refusal, act}
+use Rattle.actions.specs.Answers.{act-number, actionNumbers, met-listed}
 use Rattle.runs.specs.declared.Verdict.{Verdict}
-use Rattle.runs.specs.Run.{recordWidth, longestRun, configurationMark, actionMark, recordRefusal, recordAnswer, configure, actionIn, actOn, opening, recordsOf, weakHolds, strongHolds, judge}
-use Rattle.runs.specs.Opening.{front, limitsIn, traceOf, opening-short, opening-six, opened, unopened}
-use Rattle.verdicts.specs.RunBehaviour.{nextRecord, accepted-few, last-kept, at-behind, all-accepted, next-refused}
-use Rattle.verdicts.specs.RunProperties.{stateAt, state-kept, exposed-run-by}
+use Rattle.runs.specs.Run.{configurationWidth, recordWidth, longestRun, configurationMark, actionMark, markRefusal, recordRefusal, actionIn, actOn, configurationOf, recordsOf, lengthRefusal, opening, Step, handedBack, statesIn, weakHolds, strongHolds, judge}
+use Rattle.runs.specs.RecordLaws.{record-number}
+use Rattle.runs.specs.Opening.{limitsIn, traceOf, opening-number, opening-short, opening-long, opened, judge-unopened}
+use Rattle.verdicts.specs.RunBehaviour.{nextRecord, stateAt, accepted-few, state-kept, last-kept, at-behind, all-accepted, next-refused, record-joins}
+use Rattle.verdicts.specs.RunProperties.{exposed-run-by}
 
 -- ---- where a run stops
 -- refused: at the record behind the accepted ones, which starts inside the run and is judged on its own part of the input
 pub record StopsAt (run : List ℕ) : Type 0 where
-  pub more : judge run .accepted < length (recordsOf run)
-  pub at : judge run .at ≡ recordWidth + recordWidth * judge run .accepted
+  pub more : judge run .tally .accepted < length (recordsOf run)
+  pub at : judge run .at ≡ configurationWidth + recordWidth * judge run .tally .accepted
   pub within : judge run .at < length run
   pub bytes : nextRecord run ≡ take recordWidth (drop (judge run .at) run)
   pub answer : actOn (judge run .state) (nextRecord run) .refusal ≡ judge run .refusal
 
 module _ (run : List ℕ) (ok : opening run .refusal ≡ accepted) where
   -- behind as many records as are accepted, but not behind the last byte
-  at-is : judge run .at ≡ recordWidth + min (recordWidth * judge run .accepted) (length run - recordWidth)
+  at-is : judge run .at ≡ configurationWidth + min (recordWidth * judge run .tally .accepted) (length run - configurationWidth)
   at-is =
-      let n : ℕ = judge run .accepted in
+      let n : ℕ = judge run .tally .accepted in
       at-behind run ok
-      ∙ ap (λ (k : ℕ). recordWidth + k)
-      (ap length (front-pieces 5 n (drop recordWidth run))
-      ∙ length-take (recordWidth * n) (drop recordWidth run)
-      ∙ ap (min (recordWidth * n)) (length-drop recordWidth run))
+      ∙ ap (λ (k : ℕ). configurationWidth + k)
+      (ap length (front-pieces 5 n (drop configurationWidth run))
+      ∙ length-take (recordWidth * n) (drop configurationWidth run)
+      ∙ ap (min (recordWidth * n)) (length-drop configurationWidth run))
 
   pub at-within : judge run .at ≤ length run
-  at-within = omega (arith, at-is, opening-six run ok)
+  at-within = omega (arith, at-is, opening-long run ok)
 
   -- there are at most k records exactly where k records hold the bytes behind the configuration
-  records-few : (k : ℕ) → length (recordsOf run) ≤ k ↔ length run - recordWidth ≤ recordWidth * k
-  records-few k = rw (length-drop recordWidth run) at (pieces-few 5 k (drop recordWidth run))
+  records-few : (k : ℕ) → length (recordsOf run) ≤ k ↔ length run - configurationWidth ≤ recordWidth * k
+  records-few k = rw (length-drop configurationWidth run) at (pieces-few 5 k (drop configurationWidth run))
 
   pub refused-record : (judge run .refusal ≡ accepted → ⊥) → StopsAt run
   refused-record h =
-      let n : ℕ = judge run .accepted in
+      let n : ℕ = judge run .tally .accepted in
       let next = next-refused run ok h in
-      let left : recordWidth * n < length run - recordWidth = lt-of-not-le (λ l. omega (arith, next .0, records-few n .1 l)) in
-      let at : judge run .at ≡ recordWidth + recordWidth * n = omega (arith, at-is, left) in
+      let left : recordWidth * n < length run - configurationWidth = lt-of-not-le (λ l. omega (arith, next .0, records-few n .1 l)) in
+      let at : judge run .at ≡ configurationWidth + recordWidth * n = omega (arith, at-is, left) in
       record {
         more = next .0;
         at = at;
         within = omega (arith, at, left);
-        bytes = piece-at 5 n (drop recordWidth run)
-            ∙ ap (take recordWidth) (drop-drop (recordWidth * n) recordWidth run ∙ ap (λ (k : ℕ). drop k run) (sym at));
+        bytes = piece-at 5 n (drop configurationWidth run)
+            ∙ ap (take recordWidth) (drop-drop (recordWidth * n) configurationWidth run ∙ ap (λ (k : ℕ). drop k run) (sym at));
         answer = next .1;
       }
 
   -- not refused exactly where every record is accepted, and then at the end of its bytes
-  pub accepted-whole : judge run .refusal ≡ accepted ↔ (judge run .accepted ≡ length (recordsOf run)) × (judge run .at ≡ length run)
+  pub accepted-whole : judge run .refusal ≡ accepted ↔ (judge run .tally .accepted ≡ length (recordsOf run)) × (judge run .at ≡ length run)
   accepted-whole = (
     (λ h.
         let all = all-accepted run ok h in
-        (all, omega (arith, at-is, records-few (judge run .accepted) .0 (omega (arith, all)), opening-six run ok))),
+        (all, omega (arith, at-is, records-few (judge run .tally .accepted) .0 (omega (arith, all)), opening-long run ok))),
     (λ h. elim (ℕ-discrete (judge run .refusal) accepted) [
       | yes e ↦ e
       | no e ↦ absurd (omega (arith, next-refused run ok e .0, h .0))
     ]),
   )
 
+-- ---- the same in bytes, and by the numbers of the paper
+-- a chain of two tests, and then what follows
+marked-chain : (short unmarked : Bool) (rest : ℕ)
+    → firstRefusal (refuse short tooShort (refuse unmarked wrongMark accepted)) rest ≡ refuse short tooShort (refuse unmarked wrongMark rest)
+unfolding firstRefusal refuse
+marked-chain true unmarked rest = refl
+marked-chain false true rest = refl
+marked-chain false false rest = refl
+
+-- a record on a state: "fewer than six bytes 21 .., mark 20, .. then the action's number"
+pub record-refused-by : (s : State) (bytes : List ℕ) → actOn s bytes .refusal
+    ≡ refuse (ltb (length bytes) recordWidth) tooShort (refuse (not (marked actionMark bytes)) wrongMark (act s (actionIn bytes) .refusal))
+unfolding recordRefusal markRefusal
+record-refused-by s bytes =
+    sym (record-number s bytes) ∙ marked-chain (ltb (length bytes) recordWidth) (not (marked actionMark bytes)) (act s (actionIn bytes) .refusal)
+
+module _ (run : List ℕ) (ok : opening run .refusal ≡ accepted) where
+  -- the accepted records are in the run
+  records-within : (n : ℕ) → judge run .tally .accepted ≡ n → configurationWidth + recordWidth * n ≤ length run
+  records-within zero e = omega (arith, opening-long run ok)
+  records-within (suc k) e =
+      let j = record-joins run ok k (omega (arith, e)) in
+      omega (
+        arith,
+        j .six,
+        ap length (j .bytes),
+        length-take recordWidth (drop (configurationWidth + recordWidth * k) run),
+        length-drop (configurationWidth + recordWidth * k) run,
+      )
+
+  -- it is accepted exactly where they fill it
+  pub accepted-fills : judge run .refusal ≡ accepted ↔ length run ≡ configurationWidth + recordWidth * judge run .tally .accepted
+  accepted-fills = (
+    (λ h.
+        let w = accepted-whole run ok .0 h in
+        let f = pieces-few 5 (judge run .tally .accepted) (drop configurationWidth run) .0 (omega (arith, w .0)) in
+        omega (arith, f, length-drop configurationWidth run, records-within (judge run .tally .accepted) refl)),
+    (λ e.
+        elim (ℕ-discrete (judge run .refusal) accepted) [
+          | yes h ↦ h
+          | no h ↦ absurd (let s = refused-record run ok h in omega (arith, e, s .at, s .within))
+        ]),
+  )
+
+  -- refused, it has the number of the next record on the last state
+  pub refused-by : (judge run .refusal ≡ accepted → ⊥)
+      → judge run .refusal
+      ≡ refuse (ltb (length (nextRecord run)) recordWidth) tooShort
+      (refuse (not (marked actionMark (nextRecord run))) wrongMark
+      (act (judge run .state) (actionIn (nextRecord run)) .refusal))
+  refused-by h = sym (refused-record run ok h .answer) ∙ record-refused-by (judge run .state) (nextRecord run)
+
 -- one that is not refused has an accepted configuration, and stops at the end of its bytes
 pub accepted-opened : (run : List ℕ) → judge run .refusal ≡ accepted → opening run .refusal ≡ accepted
 accepted-opened run h =
     elim (ℕ-discrete (opening run .refusal) accepted) [
       | yes ok ↦ ok
-      | no e ↦ sym (ap (λ (v : Verdict). v .refusal) (unopened run e)) ∙ h
+      | no e ↦ sym (ap (λ (v : Verdict). v .refusal) (judge-unopened run e)) ∙ h
     ]
 
 pub accepted-at : (run : List ℕ) → judge run .refusal ≡ accepted → judge run .at ≡ length run
 accepted-at run h = accepted-whole run (accepted-opened run h) .0 h .1
 
--- ---- the numbers of a verdict
+-- ---- which numbers refuse a run
+-- those of a record's length and mark, those before the first action, and all: 2 to 22 and 25
+abbrev pub recordNumbers : List ℕ
+recordNumbers = wrongMark ∷ tooShort ∷ []
+
+abbrev pub openingNumbers : List ℕ
+openingNumbers = recordNumbers ++ freshNumbers ++ runTooLong ∷ []
+
+abbrev pub runNumbers : List ℕ
+runNumbers = actionNumbers ++ openingNumbers
+
+pub run-numbers : runNumbers
+    ≡ 2 ∷ 3 ∷ 4 ∷ 5 ∷ 6 ∷ 7 ∷ 8 ∷ 9 ∷ 10 ∷ 11 ∷ 12 ∷ 13 ∷ 14 ∷ 15 ∷ 16 ∷ 17 ∷ 18 ∷ 19 ∷ 20 ∷ 21 ∷ 22 ∷ 25 ∷ []
+run-numbers = refl
+
+-- the number of a record's length and mark is one of them
+record-listed : (l : List ℕ) (width mark : ℕ) (bytes : List ℕ) → every (map (listed l) (accepted ∷ recordNumbers)) ≡ true
+    → listed l (recordRefusal width mark bytes) ≡ true
+unfolding recordRefusal markRefusal
+record-listed l width mark bytes all =
+    let has = every-at (map (listed l) (accepted ∷ recordNumbers)) all in
+    listed-refuse l _ tooShort _ (has 2) (listed-refuse l _ wrongMark accepted (has 1) (has 0))
+
+opening-listed : (run : List ℕ) → listed (accepted ∷ openingNumbers) (opening run .refusal) ≡ true
+unfolding lengthRefusal listed every
+opening-listed run =
+    let all : List ℕ = accepted ∷ openingNumbers in
+    rw (← opening-number run)
+    (listed-first all _ _ (listed-refuse all _ runTooLong accepted refl refl)
+    (listed-first all _ _ (record-listed all configurationWidth configurationMark (configurationOf run) refl)
+    (listed-within (accepted ∷ freshNumbers) all (fresh (limitsIn run) .refusal) refl (fresh-listed (limitsIn run)))))
+
+-- that of a record, on a state that meets the rules
+act-on-listed : (s : State) → rules s ≡ true → (bytes : List ℕ) → listed (accepted ∷ runNumbers) (actOn s bytes .refusal) ≡ true
+unfolding listed every
+act-on-listed s h bytes =
+    let all : List ℕ = accepted ∷ runNumbers in
+    rw (← record-number s bytes, act-number s (actionIn bytes))
+    (listed-first all _ _ (record-listed all recordWidth actionMark bytes refl)
+    (listed-within (accepted ∷ actionNumbers) all (refusal s (actionIn bytes)) refl (met-listed s (actionIn bytes) h)))
+
+-- so no other number refuses a run
+pub run-listed : (run : List ℕ) → listed (accepted ∷ runNumbers) (judge run .refusal) ≡ true
+unfolding listed every
+run-listed run =
+    let all : List ℕ = accepted ∷ runNumbers in
+    elim (ℕ-discrete (opening run .refusal) accepted) [
+      | yes ok ↦ elim (ℕ-discrete (judge run .refusal) accepted) [
+        | yes e ↦ ap (listed all) e
+        | no e ↦ rw (← refused-record run ok e .answer) (act-on-listed (judge run .state) (last-kept run ok .rules) (nextRecord run))
+      ]
+      | no h ↦ rw (judge-unopened run h) (listed-within (accepted ∷ openingNumbers) all (opening run .refusal) refl (opening-listed run))
+    ]
+
+-- ---- how large the numbers of a verdict are
 -- 65,532 bytes hold a configuration and so many actions
 abbrev pub mostActions : ℕ
 mostActions = 10921
 
--- a number that a run may answer: up to 22, or 25; not 1, as every state on the way meets the rules
-abbrev pub OfRun : ℕ → Type 0
-OfRun n = ((n ≤ badConfiguration) ⊎ (n ≡ runTooLong)) × (n ≢ brokenState)
-
--- the bounds
 pub record Small (v : Verdict) : Type 0 where
-  pub accepted : v .accepted ≤ mostActions
-  pub refusal : OfRun (v .refusal)
+  pub refusal : listed (accepted ∷ runNumbers) (v .refusal) ≡ true
+  pub accepted : v .tally .accepted ≤ mostActions
   pub at : v .at ≤ longestRun
-  pub weak : v .weak ≤ v .accepted
-  pub strong : v .strong ≤ v .accepted
-  pub exposed : v .exposed ≤ 16
-
--- one that a record may answer: not 25
-abbrev OfRecord : ℕ → Type 0
-OfRecord n = (n ≤ badConfiguration) × (n ≢ brokenState)
-
-of-run : (n : ℕ) → OfRecord n → OfRun n
-of-run n h = (inl (h .0), h .1)
-
-record-small : (mark : ℕ) (bytes : List ℕ) (before : State) (said : Outcome) → OfRecord (said .refusal)
-    → OfRecord (recordAnswer (recordRefusal mark bytes) before said .refusal)
-unfolding recordRefusal recordAnswer refuse
-record-small mark bytes before said h = go (ltb (length bytes) recordWidth) (not (marked mark bytes))
-  where
-    go : (a b : Bool) → OfRecord (recordAnswer (refuse a tooShort (refuse b wrongMark accepted)) before said .refusal)
-    go true b = omega arith
-    go false true = omega arith
-    go false false = h
-
-fresh-small : (c : Limits) → OfRecord (fresh c .refusal)
-unfolding fresh
-fresh-small c = go (inRange c)
-  where
-    go : (b : Bool) → OfRecord (cond b (answer accepted (freshState c)) (answer badConfiguration zeroState) .refusal)
-    go true = omega arith
-    go false = omega arith
-
-opening-small : (run : List ℕ) → OfRun (opening run .refusal)
-unfolding opening configure
-opening-small run = go (ltb longestRun (length run))
-  where
-    go : (b : Bool) → OfRun (cond b (answer runTooLong zeroState) (configure (front run)) .refusal)
-    go true = (inr refl, omega arith)
-    go false = of-run _ (record-small configurationMark (front run) zeroState (fresh (limitsIn run)) (fresh-small (limitsIn run)))
-
-act-on-small : (s : State) → rules s ≡ true → (bytes : List ℕ) → OfRecord (actOn s bytes .refusal)
-unfolding actOn
-act-on-small s h bytes =
-    record-small actionMark bytes s (act s (actionIn bytes))
-    (rw (act-number s (actionIn bytes)) (omega (arith, refusal-small s (actionIn bytes)), refusal-met s (actionIn bytes) h))
+  pub weak : v .tally .weak ≤ v .tally .accepted
+  pub strong : v .tally .strong ≤ v .tally .accepted
+  pub exposed : v .tally .exposed ≤ 16
 
 -- in every state the hw of a replica is at most the end of its log, and that at most L
-exposed-small : (run : List ℕ) (ok : opening run .refusal ≡ accepted) → judge run .exposed ≤ 16
+exposed-small : (run : List ℕ) (ok : opening run .refusal ≡ accepted) → judge run .tally .exposed ≤ 16
 exposed-small run ok =
     exposed-run-by run ok 16
     (λ n h r l p.
@@ -163,21 +224,19 @@ exposed-small run ok =
     let one : r < replicaCount (stateAt run n .limits) = rw (kept .limits) l in
     omega (arith, met .s5 r one .hw, met .s2 .ends r one, met .s1 .ranges .log))
 
--- the first state that fails a test has at most the number of the last
-first-within : (test : State → Bool) (states : List State) → firstFailing 1 (map test states) ≤ length states
-first-within test states = omega (arith, failing-within 0 (map test states), length-map states test)
+-- the first step whose state fails a test has at most the number of the last
+first-within : (test : State → Bool) (steps : List Step) → firstFailing 1 (map test (statesIn steps)) ≤ length steps
+first-within test steps =
+    omega (arith, failing-within 0 (map test (statesIn steps)), length-map (statesIn steps) test, length-map steps handedBack)
 
 opened-small : (run : List ℕ) → opening run .refusal ≡ accepted → Small (judge run)
 opened-small run ok =
     record {
       accepted = omega (arith, accepted-few run ok, records-few run ok mostActions .1 (omega (arith, opening-short run ok)));
-      refusal = elim (ℕ-discrete (judge run .refusal) accepted) [
-        | yes e ↦ of-run _ (omega (arith, e))
-        | no e ↦ rw (← refused-record run ok e .answer) (of-run _ (act-on-small (judge run .state) (last-kept run ok .rules) (nextRecord run)))
-      ];
+      refusal = run-listed run;
       at = omega (arith, at-within run ok, opening-short run ok);
-      weak = rw (opened run ok) (first-within weakHolds (traceOf run .states));
-      strong = rw (opened run ok) (first-within strongHolds (traceOf run .states));
+      weak = rw (opened run ok) (first-within weakHolds (traceOf run .steps));
+      strong = rw (opened run ok) (first-within strongHolds (traceOf run .steps));
       exposed = exposed-small run ok;
     }
 
@@ -186,10 +245,10 @@ pub verdict-small : (run : List ℕ) → Small (judge run)
 verdict-small run =
     elim (ℕ-discrete (opening run .refusal) accepted) [
       | yes ok ↦ opened-small run ok
-      | no h ↦ rw (unopened run h)
+      | no h ↦ rw (judge-unopened run h)
           (record {
             accepted = omega arith;
-            refusal = opening-small run;
+            refusal = rw (judge-unopened run h) at (run-listed run);
             at = omega arith;
             weak = omega arith;
             strong = omega arith;

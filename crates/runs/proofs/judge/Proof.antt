@@ -1,21 +1,20 @@
-use mathlib.Core.Path.{_≡_, sym, ap, _∙_}
 use Prim.Native.Nat.{ℕ}
+use mathlib.Core.Path.{_≡_, sym, ap, _∙_}
 use mathlib.Core.List.{List}
 use native.Mathlib.Omega.{arith}
 use borrow.Author.Needs.{needs}
 use Rattle.parts.specs.Refusal.{accepted}
 use Rattle.cluster.specs.declared.Outcome.{Outcome}
-use Rattle.cluster.specs.State.{zeroState}
-use Rattle.runs.specs.Run.{recordWidth, opening, recordsOf, traceFrom, verdictOf, verdictFrom, judge}
+use Rattle.runs.specs.Run.{configurationWidth, opening, recordsOf, traceFrom, verdictFrom, unopened, judge}
 use Rattle.questions.specs.declared.Property.the-variants.{WeakIsr, StrongIsr}
-use Rattle.runs.specs.Opening.{opening-too-long, opening-too-short, opening-configures, opening-rules, opening-tidy, opening-holds, opened, unopened}
+use Rattle.runs.specs.Opening.{opening-too-long, opening-too-short, opening-configures, opening-rules, opening-tidy, opening-holds, opened, judge-unopened}
 use Rattle.runs.proofs.judge.Statement.{statement}
 use Rattle.runs.proofs.judge.Tie as tie
 
 -- a run that is refused by this number before its first action
-refused : (run : List ℕ) (o : Outcome) → opening run ≡ o → (o .refusal ≡ accepted → ⊥) → verdictOf 0 (o .refusal) 0 0 0 0 zeroState ≡ judge run
+refused : (run : List ℕ) (o : Outcome) → opening run ≡ o → (o .refusal ≡ accepted → ⊥) → unopened (o .refusal) ≡ judge run
 refused run o e h =
-    ap (λ (x : Outcome). verdictOf 0 (x .refusal) 0 0 0 0 zeroState) (sym e) ∙ sym (unopened run (λ q. h (ap (λ (x : Outcome). x .refusal) (sym e) ∙ q)))
+    ap (λ (x : Outcome). unopened (x .refusal)) (sym e) ∙ sym (judge-unopened run (λ q. h (ap (λ (x : Outcome). x .refusal) (sym e) ∙ q)))
 
 unopened-requires : tie.Need-unopened-requires
 unopened-requires c κs = search needs
@@ -71,7 +70,7 @@ returns-4 c =
     let z = c .before .before .before in
     let run = z .before .before .before .before .before .args .run .now in
     c .judge-actions .ensures
-    ∙ ap (λ (o : Outcome). verdictFrom (o .state) (traceFrom (o .state) recordWidth (recordsOf run))) (sym (configured z))
+    ∙ ap (λ (o : Outcome). verdictFrom (o .state) (traceFrom (o .state) configurationWidth (recordsOf run))) (sym (configured z))
     ∙ sym (opened run (ap (λ (o : Outcome). o .refusal) (configured z) ∙ c .before .if3 .left))
 
 pub judge-spec : {M : Type 1} → statement M

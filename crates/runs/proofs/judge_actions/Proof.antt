@@ -1,5 +1,5 @@
-use Prim.Native.Nat.{ℕ, _+_, _≤_, _-_}
-use mathlib.Core.Path.{_≡_, refl, sym, ap, _∙_}
+use Prim.Native.Nat.{ℕ, _+_, _≤_, _<_, _-_}
+use mathlib.Core.Path.{_≡_, refl, sym, ap, ap₂, _∙_}
 use mathlib.Core.Bool.{true}
 use mathlib.Core.List.{List}
 use native.Mathlib.Omega.{arith}
@@ -7,66 +7,80 @@ use native.Mathlib.Nat.{add-sub-cancel-left}
 use lib.ListN.{length, take, drop, length-take, length-drop}
 use lib.Seq.{length-take-le}
 use borrow.Author.Needs.{needs}
+use Rattle.logic.specs.Refuse.{firstRefusal}
+use Rattle.logic.specs.Tests.{firstFailing}
 use Rattle.parts.specs.Refusal.{accepted, tooShort}
-use Rattle.cluster.specs.declared.Outcome.{Outcome}
+use Rattle.cluster.specs.declared.State.{State}
+use Rattle.cluster.specs.declared.ActionAnswer.{ActionAnswer}
 use Rattle.cluster.specs.State.{tidy}
 use Rattle.cluster.specs.Rules.{rules}
 use Rattle.cluster.specs.Act.{actionRefusal, effect}
 use Rattle.actions.specs.Kept.{Kept}
-use Rattle.runs.specs.declared.judging.Progress.{Progress}
-use Rattle.runs.specs.declared.Verdict.{Verdict}
-use Rattle.runs.specs.Run.{recordWidth, actionMark, actionIn, recordsOf, traceFrom, verdictFrom, actOn}
-use Rattle.runs.specs.RecordLaws.{record-short, unread, accepted-number, accepted-state, act-on-kept}
-use Rattle.runs.specs.Judging.{KnownOfState, known-begun, narrowed, known-after, refusedBy, after, soFar, counted-so-far, fromHere, recordHere, here-begun, here-end, here-refused, here-on}
+use Rattle.runs.specs.declared.record.ActionRecord.{ActionRecord}
+use Rattle.runs.specs.declared.Tally.{Tally}
+use Rattle.runs.specs.Run.{configurationWidth, recordWidth, actOn, recordsOf, stepOn, traceFrom, verdictFrom}
+use Rattle.runs.specs.RecordLaws.{readAction, short-number, read-number, accepted-number, accepted-state, act-on-kept}
+use Rattle.runs.specs.Judging.{acceptedStep, step-accepted, tallyAfter, KnownOfState, known-begun, narrowed, known-after, verdictAt, recordHere, fromHere, here-begun, here-end, here-refused, here-on}
 use Rattle.runs.proofs.judge_actions.Statement.{statement}
 use Rattle.runs.proofs.judge_actions.Tie as tie
 
 -- the state meets the rules and is tidy, what is known of it, and the verdict from here is that of the run
 abbrev Inv-loop : tie.InvT-loop
-Inv-loop run state₀ progress₀ state progress =
-    (progress .at ≤ length run) × (progress .accepted ≤ progress .at) × (rules state ≡ true) × (tidy state ≡ state) × KnownOfState progress state
-    × (fromHere (soFar progress₀ state₀) run ≡ fromHere (soFar progress state) run)
+Inv-loop run state₀ at₀ tally₀ state at tally =
+    (at ≤ length run) × (tally .accepted ≤ at) × (rules state ≡ true) × (tidy state ≡ state) × KnownOfState tally state
+    × (fromHere tally₀ state₀ at₀ run ≡ fromHere tally state at run)
 
 abbrev μ-loop : tie.MeasureT-loop
-μ-loop run state₀ progress₀ state progress = length run - progress .at
+μ-loop run state₀ at₀ tally₀ state at tally = length run - at
 
--- the verdict so far, the run and its next record
-abbrev here : tie.At-loop Inv-loop μ-loop → Verdict
-here z = soFar (z .loop .progress) (z .loop .state)
-
+-- the run, its next record, and what that answers
 abbrev runAt : tie.At-loop Inv-loop μ-loop → List ℕ
 runAt z = z .before .before .before .args .run .now
 
 abbrev nextAt : tie.At-loop Inv-loop μ-loop → List ℕ
-nextAt z = recordHere (here z) (runAt z)
+nextAt z = recordHere (runAt z) (z .loop .at)
+
+abbrev answerAt : tie.At-loop Inv-loop μ-loop → ActionAnswer
+answerAt z = actOn (z .loop .state) (nextAt z)
 
 -- the verdict of the run is the one from here
 whole : (z : tie.At-loop Inv-loop μ-loop)
-    → let fresh = z .before .before .before .args .fresh in verdictFrom fresh (traceFrom fresh recordWidth (recordsOf (runAt z))) ≡ fromHere (here z) (runAt z)
+    → let fresh = z .before .before .before .args .fresh in
+    verdictFrom fresh (traceFrom fresh configurationWidth (recordsOf (runAt z))) ≡ fromHere (z .loop .tally) (z .loop .state) (z .loop .at) (runAt z)
 whole z =
     let fresh = z .before .before .before .args .fresh in
     here-begun fresh (runAt z)
-    ∙ ap (λ (p : Progress). fromHere (soFar p fresh) (runAt z)) (sym (z .before .begun .ensures))
+    ∙ ap (λ (tally : Tally). fromHere tally fresh configurationWidth (runAt z)) (sym (z .before .begun .ensures))
     ∙ z .loop .inv .5
 
--- the part of the run that the readers take is that record, and has six bytes
-part : (z : tie.At-loop Inv-loop μ-loop) → take (here z .at + recordWidth - here z .at) (drop (here z .at) (runAt z)) ≡ nextAt z
-part z = ap (λ (k : ℕ). take k (drop (here z .at) (runAt z))) (add-sub-cancel-left (here z .at) recordWidth)
+-- it stops here by this number, which is that of the next record
+stops : (z : tie.At-loop Inv-loop μ-loop) (number : ℕ) → z .loop .at < length (runAt z)
+    → number ≡ answerAt z .refusal → (number ≡ accepted → ⊥)
+    → let fresh = z .before .before .before .args .fresh in
+    verdictAt (z .loop .tally) number (z .loop .at) (z .loop .state) ≡ verdictFrom fresh (traceFrom fresh configurationWidth (recordsOf (runAt z)))
+stops z number h e refused =
+    let l = z .loop in
+    ap (λ (n : ℕ). verdictAt (l .tally) n (l .at) (l .state)) e
+    ∙ here-refused (l .tally) (l .state) (l .at) (runAt z) h (λ q. refused (e ∙ q))
+    ∙ sym (whole z)
 
-six : (z : tie.Else2 Inv-loop μ-loop)
-    → let l = z .before .before .before in length (take (here l .at + recordWidth - here l .at) (drop (here l .at) (runAt l))) ≡ recordWidth
+-- the part of the run that the reader takes is that record, and has six bytes
+part : (z : tie.At-loop Inv-loop μ-loop) → take (z .loop .at + recordWidth - z .loop .at) (drop (z .loop .at) (runAt z)) ≡ nextAt z
+part z = ap (λ (k : ℕ). take k (drop (z .loop .at) (runAt z))) (add-sub-cancel-left (z .loop .at) recordWidth)
+
+six : (z : tie.Else1 Inv-loop μ-loop) → length (nextAt (z .before .before)) ≡ recordWidth
 six z =
-    let l = z .before .before .before in
-    ap length (part l) ∙ length-take-le recordWidth (drop (here l .at) (runAt l)) (rw length-drop (omega arith))
+    let l = z .before .before in
+    length-take-le recordWidth (drop (l .loop .at) (runAt l)) (rw length-drop (omega arith))
 
 begun-requires : tie.Need-begun-requires Inv-loop μ-loop
 begun-requires c κs = search needs
 
 loop-holds : tie.Need-loop-holds Inv-loop μ-loop
+unfolding firstFailing
 loop-holds c =
     let e = c .begun .ensures in
-    let at : c .begun .result .at ≡ recordWidth = ap (λ (p : Progress). p .at) e in
-    let count : c .begun .result .accepted ≡ 0 = ap (λ (p : Progress). p .accepted) e in (
+    let count : c .begun .result .accepted ≡ 0 = ap (λ (tally : Tally). tally .accepted) e in (
       omega arith,
       omega arith,
       search needs,
@@ -75,44 +89,49 @@ loop-holds c =
       refl,
     )
 
-sub-if2 : tie.Need-sub-if2 Inv-loop μ-loop
-sub-if2 c = search needs
+sub-if1 : tie.Need-sub-if1 Inv-loop μ-loop
+sub-if1 c = search needs
 
 verdict-requires : tie.Need-verdict-requires Inv-loop μ-loop
 verdict-requires c κs = search needs
 
 returns : tie.Need-returns Inv-loop μ-loop
 returns c =
-    let z = c .before .before .before .before in
-    let v = here z in
-    let e : actOn (v .state) (nextAt z) .refusal ≡ tooShort =
-    ap (λ (o : Outcome). o .refusal) (unread (v .state) (nextAt z) 20 (record-short actionMark (nextAt z) (rw (length-take, length-drop) (omega arith)))) in
+    let z = c .before .before .before in
     c .verdict .ensures
-    ∙ ap (refusedBy v) (sym e)
-    ∙ here-refused v (runAt z) (c .before .before .if1 .taken) (λ q. let w : tooShort ≡ accepted = sym e ∙ q in omega arith)
-    ∙ sym (whole z)
+    ∙ stops z tooShort (c .before .before .loop-test .taken)
+    (short-number (z .loop .state) (nextAt z) (rw (length-take, length-drop) (omega arith)))
+    (λ q. omega arith)
 
-add-refusal-on : tie.Need-add-refusal-on Inv-loop μ-loop
-add-refusal-on c = omega arith
+add-read-action : tie.Need-add-read-action Inv-loop μ-loop
+add-read-action c = omega arith
 
-sub-refusal-on : tie.Need-sub-refusal-on Inv-loop μ-loop
-sub-refusal-on c = omega arith
+sub-read-action : tie.Need-sub-read-action Inv-loop μ-loop
+sub-read-action c = omega arith
 
-part-refusal-on-start : tie.Need-part-refusal-on-start Inv-loop μ-loop
-part-refusal-on-start c = omega arith
+part-read-action-start : tie.Need-part-read-action-start Inv-loop μ-loop
+part-read-action-start c = omega arith
 
-part-refusal-on-end : tie.Need-part-refusal-on-end Inv-loop μ-loop
-part-refusal-on-end c = omega arith
+part-read-action-end : tie.Need-part-read-action-end Inv-loop μ-loop
+part-read-action-end c = omega arith
+
+read-action-requires : tie.Need-read-action-requires Inv-loop μ-loop
+read-action-requires c κs = ap length (part (c .before .before .before)) ∙ six (c .before)
+
+-- what is read is that record
+read : (z : tie.After-read-action Inv-loop μ-loop) → z .read-action .result ≡ readAction (nextAt (z .before .before .before .before))
+read z = z .read-action .ensures ∙ ap readAction (part (z .before .before .before .before))
 
 refusal-on-requires : tie.Need-refusal-on-requires Inv-loop μ-loop
-refusal-on-requires c κs = (search needs, (search needs, six (c .before)))
+refusal-on-requires c κs = search needs
 
--- the number is that of the record
-number : (z : tie.After-refusal-on Inv-loop μ-loop)
-    → let l = z .before .before .before .before .before in z .refusal-on .result ≡ actOn (here l .state) (nextAt l) .refusal
+-- and its number that of the record
+number : (z : tie.After-refusal-on Inv-loop μ-loop) → z .refusal-on .result ≡ answerAt (z .before .before .before .before .before) .refusal
 number z =
     let l = z .before .before .before .before .before in
-    z .refusal-on .ensures ∙ ap (λ (b : List ℕ). actOn (here l .state) b .refusal) (part l)
+    z .refusal-on .ensures
+    ∙ ap (λ (r : ActionRecord). firstRefusal (r .refusal) (actionRefusal (l .loop .state) (r .action))) (read (z .before))
+    ∙ read-number (l .loop .state) (nextAt l) (l .loop .inv .2) (l .loop .inv .3) (omega (arith, six (z .before .before .before)))
 
 verdict-requires-2 : tie.Need-verdict-requires-2 Inv-loop μ-loop
 verdict-requires-2 c κs = search needs
@@ -120,96 +139,82 @@ verdict-requires-2 c κs = search needs
 returns-2 : tie.Need-returns-2 Inv-loop μ-loop
 returns-2 c =
     let z = c .before .before .before .before .before .before .before in
-    let e = number (c .before .before) in
     c .verdict2 .ensures
-    ∙ ap (refusedBy (here z)) e
-    ∙ here-refused (here z) (runAt z) (c .before .before .before .before .before .if1 .taken) (λ q. c .before .if3 .taken (e ∙ q))
-    ∙ sym (whole z)
+    ∙ stops z (c .before .before .refusal-on .result) (c .before .before .before .before .before .before .loop-test .taken)
+    (number (c .before .before)) (c .before .if2 .taken)
 
-add-action-of : tie.Need-add-action-of Inv-loop μ-loop
-add-action-of c = omega arith
+-- the record is accepted, and so is its action
+ok : (z : tie.Else2 Inv-loop μ-loop) → answerAt (z .before .before .before .before .before .before) .refusal ≡ accepted
+ok z = sym (number (z .before)) ∙ z .if2 .left
 
-sub-action-of : tie.Need-sub-action-of Inv-loop μ-loop
-sub-action-of c = omega arith
-
-part-action-of-start : tie.Need-part-action-of-start Inv-loop μ-loop
-part-action-of-start c = omega arith
-
-part-action-of-end : tie.Need-part-action-of-end Inv-loop μ-loop
-part-action-of-end c = omega arith
-
-action-of-requires : tie.Need-action-of-requires Inv-loop μ-loop
-action-of-requires c κs = six (c .before .before .before .before)
-
--- the action is that of the record, which is accepted
-action : (z : tie.After-action-of Inv-loop μ-loop) → let l = z .before .before .before .before .before .before .before .before in z .action-of .result ≡ actionIn (nextAt l)
-action z = z .action-of .ensures ∙ ap actionIn (part (z .before .before .before .before .before .before .before .before))
-
-ok : (z : tie.After-action-of Inv-loop μ-loop) → let l = z .before .before .before .before .before .before .before .before in actOn (here l .state) (nextAt l) .refusal ≡ accepted
-ok z = sym (number (z .before .before .before)) ∙ z .before .before .if3 .left
-
--- the action is not refused
-allowed : (z : tie.After-action-of Inv-loop μ-loop)
-    → let l = z .before .before .before .before .before .before .before .before in actionRefusal (here l .state) (z .action-of .result) ≡ accepted
+allowed : (z : tie.Else2 Inv-loop μ-loop)
+    → actionRefusal (z .before .before .before .before .before .before .loop .state) (z .before .before .read-action .result .action) ≡ accepted
 allowed z =
-    let l = z .before .before .before .before .before .before .before .before in
-    ap (actionRefusal (here l .state)) (action z) ∙ accepted-number (here l .state) (nextAt l) (l .loop .inv .2) (l .loop .inv .3) (ok z)
+    let l = z .before .before .before .before .before .before in
+    ap (λ (r : ActionRecord). actionRefusal (l .loop .state) (r .action)) (read (z .before .before))
+    ∙ accepted-number (l .loop .state) (nextAt l) (l .loop .inv .2) (l .loop .inv .3) (ok z)
 
 effect-requires : tie.Need-effect-requires Inv-loop μ-loop
-effect-requires c κs = (c .before .before .before .before .before .before .before .before .before .loop .inv .2, allowed (c .before))
+effect-requires c κs = (c .before .before .before .before .before .before .before .loop .inv .2, allowed (c .before))
 
 -- the state is the one that the record hands back; it meets the rules and is tidy
-handed : (z : tie.After-effect Inv-loop μ-loop) → let l = z .before .before .before .before .before .before .before .before .before .before in z .effect .result ≡ actOn (here l .state) (nextAt l) .state
+handed : (z : tie.After-effect Inv-loop μ-loop) → z .effect .result ≡ answerAt (z .before .before .before .before .before .before .before .before) .state
 handed z =
-    let l = z .before .before .before .before .before .before .before .before .before .before in
-    z .effect .ensures ∙ ap (effect (here l .state)) (action (z .before .before))
-    ∙ accepted-state (here l .state) (nextAt l) (l .loop .inv .2) (l .loop .inv .3) (ok (z .before .before))
+    let l = z .before .before .before .before .before .before .before .before in
+    z .effect .ensures
+    ∙ ap (λ (r : ActionRecord). effect (l .loop .state) (r .action)) (read (z .before .before .before .before))
+    ∙ accepted-state (l .loop .state) (nextAt l) (l .loop .inv .2) (l .loop .inv .3) (ok (z .before .before))
 
-kept : (z : tie.After-effect Inv-loop μ-loop) → let l = z .before .before .before .before .before .before .before .before .before .before in Kept (here l .state) (z .effect .result)
+kept : (z : tie.After-effect Inv-loop μ-loop) → Kept (z .before .before .before .before .before .before .before .before .loop .state) (z .effect .result)
 kept z =
-    let l = z .before .before .before .before .before .before .before .before .before .before in
-    rw (handed z) (act-on-kept (here l .state) (nextAt l) (l .loop .inv .2) (l .loop .inv .3))
+    let l = z .before .before .before .before .before .before .before .before in
+    rw (handed z) (act-on-kept (l .loop .state) (nextAt l) (l .loop .inv .2) (l .loop .inv .3))
 
 after-requires : tie.Need-after-requires Inv-loop μ-loop
 after-requires c κs =
-    let l = c .before .before .before .before .before .before .before .before .before .before in (
+    let l = c .before .before .before .before .before .before .before .before in (
       kept c .rules,
       (
         omega arith,
-        (
-          omega arith,
-          rw (c .effect .ensures) (narrowed (l .loop .progress) (l .loop .state) (c .before .before .action-of .result) (l .loop .inv .4) (l .loop .inv .2) (l .loop .inv .3) (allowed (c .before .before))),
-        ),
+        rw (c .effect .ensures)
+            (narrowed (l .loop .tally) (l .loop .state) (c .before .before .before .before .read-action .result .action)
+            (l .loop .inv .4) (l .loop .inv .2) (l .loop .inv .3) (allowed (c .before .before))),
       ),
     )
 
--- it is the verdict after one action more
-one-more : (z : tie.After-after Inv-loop μ-loop) → let l = z .before .before .before .before .before .before .before .before .before .before .before in let s = z .before .effect .result in soFar (z .after .result) s ≡ after (here l) s
-one-more z =
-    let l = z .before .before .before .before .before .before .before .before .before .before .before in
-    let s = z .before .effect .result in
-    ap (λ (p : Progress). soFar p s) (z .after .ensures) ∙ counted-so-far (l .loop .progress) s (l .loop .state)
+-- what is counted is one step more
+counted : (z : tie.After-after Inv-loop μ-loop)
+    → let l = z .before .before .before .before .before .before .before .before .before in
+    z .after .result ≡ tallyAfter (l .loop .tally) (stepOn (l .loop .state) (nextAt l))
+counted z =
+    let l = z .before .before .before .before .before .before .before .before .before in
+    z .after .ensures
+    ∙ ap₂ (λ (r : ActionRecord) (next : State). tallyAfter (l .loop .tally) (acceptedStep (r .action) next))
+    (read (z .before .before .before .before .before)) (handed (z .before))
+    ∙ ap (tallyAfter (l .loop .tally)) (step-accepted (l .loop .state) (nextAt l) (ok (z .before .before .before)))
+
+add-at : tie.Need-add-at Inv-loop μ-loop
+add-at c =
+    let z = c .before .before .before .before .before .before .before .before .before in
+    omega (arith, c .before .before .before .before .before .before .before .before .loop-test .taken, z .before .before .before .pre .0)
 
 loop-less : tie.Need-loop-less Inv-loop μ-loop
-loop-less c =
-    let at = ap (λ (v : Verdict). v .at) (one-more c) in
-    omega (arith, at)
+loop-less c = omega arith
 
 loop-again : tie.Need-loop-again Inv-loop μ-loop
 loop-again c =
-    let z = c .before .before .before .before .before .before .before .before .before .before .before in
-    let e = one-more c in
-    let at : c .after .result .at ≡ here z .at + recordWidth = ap (λ (v : Verdict). v .at) e in
-    let count : c .after .result .accepted ≡ here z .accepted + 1 = ap (λ (v : Verdict). v .accepted) e in
-    let whole = c .before .before .before .before .before .before .before .before .if2 .left in (
-      omega (arith, whole),
+    let z = c .before .before .before .before .before .before .before .before .before in
+    let e = counted c in
+    let count : c .after .result .accepted ≡ z .loop .tally .accepted + 1 = ap (λ (tally : Tally). tally .accepted) e in
+    let fits = c .before .before .before .before .before .before .before .if1 .left in (
+      omega (arith, fits),
       omega arith,
       kept (c .before) .rules,
       kept (c .before) .tidy,
-      rw (c .after .ensures) (known-after (z .loop .progress) (c .before .effect .result)),
+      rw (e, handed (c .before)) (known-after (z .loop .tally) (stepOn (z .loop .state) (nextAt z))),
       z .loop .inv .5
-          ∙ here-on (here z) (runAt z) (omega (arith, whole)) (ok (c .before .before .before))
-          ∙ ap (λ (v : Verdict). fromHere v (runAt z)) (sym (e ∙ ap (after (here z)) (handed (c .before)))),
+          ∙ here-on (z .loop .tally) (z .loop .state) (z .loop .at) (runAt z) (omega (arith, fits)) (ok (c .before .before .before))
+          ∙ ap₂ (λ (tally : Tally) (s : State). fromHere tally s (z .loop .at + recordWidth) (runAt z)) (sym e) (sym (handed (c .before))),
     )
 
 verdict-requires-3 : tie.Need-verdict-requires-3 Inv-loop μ-loop
@@ -217,8 +222,8 @@ verdict-requires-3 c κs = search needs
 
 returns-3 : tie.Need-returns-3 Inv-loop μ-loop
 returns-3 c =
-    let z = c .before .before .before in
-    c .verdict3 .ensures ∙ here-end (here z) (runAt z) (omega arith) ∙ sym (whole z)
+    let z = c .before .before in
+    c .verdict3 .ensures ∙ here-end (z .loop .tally) (z .loop .state) (z .loop .at) (runAt z) (omega arith) ∙ sym (whole z)
 
 pub judge-actions-spec : {M : Type 1} → statement M
 judge-actions-spec =
@@ -228,23 +233,20 @@ judge-actions-spec =
     μ-loop
     begun-requires
     loop-holds
-    sub-if2
+    sub-if1
     verdict-requires
     returns
-    add-refusal-on
-    sub-refusal-on
-    part-refusal-on-start
-    part-refusal-on-end
+    add-read-action
+    sub-read-action
+    part-read-action-start
+    part-read-action-end
+    read-action-requires
     refusal-on-requires
     verdict-requires-2
     returns-2
-    add-action-of
-    sub-action-of
-    part-action-of-start
-    part-action-of-end
-    action-of-requires
     effect-requires
     after-requires
+    add-at
     loop-less
     loop-again
     verdict-requires-3

@@ -1,8 +1,7 @@
 use mathlib.Core.Path.{_≡_, sym, _∙_}
 use borrow.Author.Needs.{needs}
-use Rattle.logic.specs.Table.{cond-true, cond-false}
 use Rattle.questions.specs.Isr.{askIsr}
-use Rattle.runs.specs.Judging.{failed-before, failed-now}
+use Rattle.runs.specs.Judging.{failed-before, failed-never, failed-now}
 use Rattle.runs.proofs.judging.failed_at.Statement.{statement}
 use Rattle.runs.proofs.judging.failed_at.Tie as tie
 
@@ -21,14 +20,12 @@ holds-after-requires c κs = search needs
 returns-2 : tie.Need-returns-2
 returns-2 c =
     let a = c .before .before .before .args in
-    sym (cond-true _ 0 (a .count) (asked (c .before) ∙ c .if2 .taken))
-    ∙ failed-now (a .known) (askIsr (a .property) (a .next) .holds) (a .count) (c .before .before .if1 .left)
+    failed-never (a .known) (askIsr (a .property) (a .next) .holds) (a .count) (c .before .before .if1 .left) (asked (c .before) ∙ c .if2 .taken)
 
 returns-3 : tie.Need-returns-3
 returns-3 c =
     let a = c .before .before .before .args in
-    sym (cond-false _ 0 (a .count) (asked (c .before) ∙ c .if2 .left))
-    ∙ failed-now (a .known) (askIsr (a .property) (a .next) .holds) (a .count) (c .before .before .if1 .left)
+    failed-now (a .known) (askIsr (a .property) (a .next) .holds) (a .count) (c .before .before .if1 .left) (asked (c .before) ∙ c .if2 .left)
 
 pub failed-at-spec : {M : Type 1} → statement M
 failed-at-spec = tie.close (tie.spec returns holds-after-requires returns-2 returns-3)

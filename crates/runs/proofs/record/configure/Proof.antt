@@ -1,18 +1,21 @@
-use mathlib.Core.Path.{sym, ap, _∙_}
-use Prim.Native.Nat.{ℕ}
+use mathlib.Core.Path.{_≡_, sym, ap, ap₂, _∙_}
 use native.Mathlib.Omega.{arith}
 use borrow.Author.Needs.{needs}
-use borrow.Author.Tests.{not-true, not-false}
-use Rattle.parts.specs.Refusal.{wrongMark}
-use Rattle.cluster.specs.State.{limitsOf, zeroState}
-use Rattle.cluster.specs.Fresh.{answer, fresh}
-use Rattle.runs.specs.Run.{configurationMark, recordAnswer, configure}
-use Rattle.runs.specs.RecordLaws.{record-unmarked, record-whole, record-said, record-refused}
+use Rattle.logic.specs.Refuse.{by-accepted, by-refused}
+use Rattle.cluster.specs.State.{limitsOf}
+use Rattle.cluster.specs.Outcome.{answer, withZeros}
+use Rattle.cluster.specs.Fresh.{fresh}
+use Rattle.runs.specs.Run.{configurationWidth, configurationMark, recordRefusal, configure}
+use Rattle.runs.specs.RecordLaws.{record-long}
 use Rattle.runs.proofs.record.configure.Statement.{statement}
 use Rattle.runs.proofs.record.configure.Tie as tie
 
-is-marked-requires : tie.Need-is-marked-requires
-is-marked-requires c κs = search needs
+mark-refusal-requires : tie.Need-mark-refusal-requires
+mark-refusal-requires c κs = search needs
+
+-- the number is that of the configuration
+number : (z : tie.After-mark-refusal) → z .mark-refusal .result ≡ recordRefusal configurationWidth configurationMark (z .before .before .args .bytes .now)
+number z = z .mark-refusal .ensures ∙ record-long configurationMark (z .before .before .args .bytes .now) configurationWidth (omega arith)
 
 zero-requires : tie.Need-zero-requires
 zero-requires c κs = search needs
@@ -20,13 +23,12 @@ zero-requires c κs = search needs
 returns : tie.Need-returns
 unfolding configure
 returns c =
-    let b = c .before .before .before .before .args .bytes .now in
-    let e = record-unmarked configurationMark b (omega arith) (sym (c .before .before .is-marked .ensures) ∙ not-true _ (c .before .if1 .taken)) in
-    ap (answer wrongMark) (c .zero .ensures)
-    ∙ sym (ap (λ (n : ℕ). recordAnswer n zeroState (fresh (limitsOf b))) e ∙ record-refused wrongMark zeroState (fresh (limitsOf b)) (λ q. omega arith))
+    let e = number (c .before .before) in
+    ap₂ answer e (c .zero .ensures)
+    ∙ by-refused _ withZeros (fresh (limitsOf (c .before .before .before .before .args .bytes .now))) (λ q. c .before .if1 .taken (e ∙ q))
 
-limits-of-requires : tie.Need-limits-of-requires
-limits-of-requires c κs = search needs
+limits-at-requires : tie.Need-limits-at-requires
+limits-at-requires c κs = search needs
 
 fresh-requires : tie.Need-fresh-requires
 fresh-requires c κs = search needs
@@ -34,12 +36,12 @@ fresh-requires c κs = search needs
 returns-2 : tie.Need-returns-2
 unfolding configure
 returns-2 c =
-    let b = c .before .before .before .before .before .args .bytes .now in
     c .fresh .ensures
-    ∙ ap fresh (c .before .limits-of .ensures)
-    ∙ sym (record-said _ zeroState (fresh (limitsOf b)) (record-whole configurationMark b (omega arith) (sym (c .before .before .before .is-marked .ensures) ∙ not-false _ (c .before .before .if1 .left))))
+    ∙ ap fresh (c .before .limits-at .ensures)
+    ∙ by-accepted _ withZeros (fresh (limitsOf (c .before .before .before .before .before .args .bytes .now)))
+    (sym (number (c .before .before .before)) ∙ c .before .before .if1 .left)
 
 pub configure-spec : {M : Type 1} → statement M
 configure-spec =
     tie.close
-    (tie.spec is-marked-requires zero-requires returns limits-of-requires fresh-requires returns-2)
+    (tie.spec mark-refusal-requires zero-requires returns limits-at-requires fresh-requires returns-2)
