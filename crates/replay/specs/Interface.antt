@@ -1,18 +1,20 @@
 -- The C interface: what each of its ten functions answers, and what it leaves in the buffer `out`. A state comes and goes in its
 -- flat form. Assumes nothing.
-use Prim.Native.Nat.{ℕ, zero, suc, _+_, _*_, _/_, _%_}
+use Prim.Native.Nat.{ℕ, _+_, _*_, _/_, _%_}
 use mathlib.Core.Path.{_≡_}
-use mathlib.Core.Bool.{not, cond}
+use mathlib.Core.Bool.{cond}
 use mathlib.Core.List.{List, [], _∷_, _++_}
 use lib.Dec.{eqb, ltb}
 use lib.ListN.{length, drop}
-use Rattle.logic.specs.Refuse.{refuse}
-use Rattle.parts.specs.Refusal.{accepted, brokenState, tooShort, leftOver, bufferShort, notRenaming}
+use Rattle.logic.specs.Refuse.{refuse, firstRefusal, byRefusal}
+use Rattle.parts.specs.Refusal.{accepted, tooShort, leftOver, bufferShort, notRenaming}
 use Rattle.parts.specs.Isr.{bit}
 use Rattle.cluster.specs.declared.State.{State}
 use Rattle.cluster.specs.declared.Outcome.{Outcome}
-use Rattle.cluster.specs.Rules.{rules}
-use Rattle.cluster.specs.Fresh.{answer, fresh}
+use Rattle.cluster.specs.declared.ActionAnswer.{ActionAnswer}
+use Rattle.cluster.specs.Outcome.{answer}
+use Rattle.cluster.specs.Rules.{stateRefusal}
+use Rattle.cluster.specs.Fresh.{fresh}
 use Rattle.cluster.specs.Act.{actionOf, act}
 use Rattle.questions.specs.declared.IsrAnswer.{IsrAnswer}
 use Rattle.questions.specs.declared.OfferAnswer.{OfferAnswer}
@@ -53,13 +55,18 @@ Replies reply out result after = (result ≡ number reply out) × (after ≡ out
 
 -- ---- from the library's answers
 -- by the answer's own number: what it gives at 0, else the number
-unfoldable pub replyBy : ℕ → Reply → Reply
-replyBy zero reply = reply
-replyBy (suc n) reply = refuses (suc n)
+abbrev pub replyBy : ℕ → Reply → Reply
+replyBy number reply = byRefusal number refuses reply
 
 -- a number and a state: 226 bytes
-unfoldable pub stateReply : Outcome → Reply
-stateReply o = replyBy (o .refusal) (gives (flat (o .state)))
+unfoldable pub stateReply : ℕ → State → Reply
+stateReply number s = replyBy number (gives (flat s))
+
+abbrev pub outcomeReply : Outcome → Reply
+outcomeReply o = stateReply (o .refusal) (o .state)
+
+abbrev pub actionReply : ActionAnswer → Reply
+actionReply a = stateReply (a .refusal) (a .state)
 
 -- weak and strong ISR: "4 bytes: 1, 0, 0, 0 where it holds; else 0, r, m, offset"
 unfoldable pub isrReply : IsrAnswer → Reply
@@ -71,7 +78,7 @@ offerReply o = replyBy (o .refusal) (gives (o .a ∷ o .b ∷ o .e ∷ []))
 
 -- an image, or 1
 unfoldable pub imageReply : State → Reply
-imageReply s = cond (rules s) (gives (image s)) (refuses brokenState)
+imageReply s = replyBy (stateRefusal s) (gives (image s))
 
 -- ---- a state that comes as bytes
 -- "`state` shorter than 226 bytes 21, longer 23, before anything else"
@@ -87,7 +94,7 @@ onState state reply = replyBy (widthRefusal state) (reply (stateOfFlat state))
 -- ---- places that come as bytes
 -- "1, then 27, also for a count of places other than five"
 unfoldable pub renameBy : State → List ℕ → Outcome
-renameBy s places = cond (eqb (length places) 5) (rename s places) (answer (refuse (not (rules s)) brokenState notRenaming) s)
+renameBy s places = cond (eqb (length places) 5) (rename s places) (answer (firstRefusal (stateRefusal s) notRenaming) s)
 
 -- ---- a verdict as bytes
 -- "u32, low byte first"
@@ -103,19 +110,19 @@ verdictWidth = 250
 
 unfoldable pub verdictBytes : Verdict → List ℕ
 verdictBytes v =
-    threeNumbers (v .accepted) (v .refusal) (v .at)
-    ++ (threeNumbers (v .weak) (v .strong) (v .exposed)
+    threeNumbers (v .tally .accepted) (v .refusal) (v .at)
+    ++ (threeNumbers (v .tally .weak) (v .tally .strong) (v .tally .exposed)
     ++ flat (v .state))
 
 -- ---- the ten functions
 -- replay_fresh
 unfoldable pub replayFresh : ℕ → ℕ → ℕ → ℕ → Reply
 replayFresh r l m x =
-    stateReply (fresh (record { «replica_count» = r; «log_size» = l; «max_records» = m; «max_leader_epoch» = x }))
+    outcomeReply (fresh (record { «replica_count» = r; «log_size» = l; «max_records» = m; «max_leader_epoch» = x }))
 
 -- replay_act
 unfoldable pub replayAct : List ℕ → ℕ → ℕ → ℕ → ℕ → Reply
-replayAct state kind a b e = onState state (λ s. stateReply (act s (actionOf kind a b e)))
+replayAct state kind a b e = onState state (λ s. actionReply (act s (actionOf kind a b e)))
 
 -- replay_weak and replay_strong
 unfoldable pub replayWeak : List ℕ → Reply
@@ -137,15 +144,15 @@ numberAndLength reply out = number reply out + 256 * lengthWritten reply out
 
 -- replay_read_image
 unfoldable pub replayReadImage : List ℕ → Reply
-replayReadImage bytes = stateReply (readImage bytes)
+replayReadImage bytes = outcomeReply (readImage bytes)
 
 -- replay_rename
 unfoldable pub replayRename : List ℕ → List ℕ → Reply
-replayRename state places = onState state (λ s. stateReply (renameBy s places))
+replayRename state places = onState state (λ s. outcomeReply (renameBy s places))
 
 -- replay_representative
 unfoldable pub replayRepresentative : List ℕ → Reply
-replayRepresentative state = onState state (λ s. stateReply (represent s))
+replayRepresentative state = onState state (λ s. outcomeReply (represent s))
 
 -- replay_judge: "refuses only by 24: a refused run is an answer, its refusal a field of the verdict"
 unfoldable pub replayJudge : List ℕ → Reply

@@ -1,48 +1,47 @@
 -- Laws of the interface, for its functions. Assumes nothing.
 use Prim.Native.Nat.{ℕ, zero, suc, _+_, _*_, _≤_, _<_}
 use mathlib.Core.Path.{_≡_, refl, sym, _∙_, ap, subst}
-use mathlib.Core.Bool.{Bool, true, false, not}
-use mathlib.Core.List.{List, [], _∷_}
+use mathlib.Core.Bool.{Bool, true, false, cond}
+use mathlib.Core.List.{List, [], _∷_, _++_}
 use native.Mathlib.Omega.{arith}
 use native.Mathlib.Decide.{ℕ-discrete, decLt}
 use lib.Dec.{ltb}
-use lib.ListN.{length, getD}
+use lib.ListN.{length, getD, drop}
 use mir.Val.{boolByte}
 use borrow.Author.Tests.{lt-ltb, le-ltb, ltb-false, eq-eqb, ne-eqb}
-use Rattle.logic.specs.Refuse.{refuse-yes, refuse-no, refuse-zero}
+use Rattle.logic.specs.Tests.{every}
+use Rattle.logic.specs.Refuse.{refuse-zero, first-yes, first-no, by-accepted, by-refused, listed-most}
 use Rattle.logic.specs.Stores.{Stored, stored-front}
 use Rattle.logic.specs.Table.{table, tableFrom, ext-table, cond-true, cond-false}
-use Rattle.parts.specs.Refusal.{accepted, brokenState, bufferShort, notRenaming}
+use Rattle.parts.specs.Refusal.{accepted, bufferShort, notRenaming}
 use Rattle.parts.specs.Isr.{bit}
 use Rattle.cluster.specs.declared.State.{State}
 use Rattle.cluster.specs.declared.Outcome.{Outcome}
 use Rattle.cluster.specs.State.{zeroState}
 use Rattle.cluster.specs.Rules.{rules, stateRefusal}
-use Rattle.cluster.specs.RuleLaws.{refusal-broken}
-use Rattle.cluster.specs.Fresh.{answer}
+use Rattle.cluster.specs.RuleLaws.{met-refusal, broken-refusal}
+use Rattle.cluster.specs.Outcome.{answer}
 use Rattle.renamings.specs.Rename.{rename}
 use Rattle.images.specs.Image.{image, writeImage, bufferAfter}
 use Rattle.images.specs.ImageLaws.{image-most}
-use Rattle.images.specs.WriteLaws.{writes-broken, writes-short, writes-all}
+use Rattle.images.specs.WriteLaws.{writeNumbers, write-listed, writes-broken, writes-short, writes-all}
 use Rattle.images.specs.Read.{parsed, readImage}
 use Rattle.images.specs.Layout.{bodyOf, layoutRefusal}
 use Rattle.images.specs.ReadLaws.{read-refused, read-met, read-unmet}
 use Rattle.runs.specs.declared.Verdict.{Verdict}
 use Rattle.flat.specs.Flat.{flatWidth, flat, stateOfFlat}
 use Rattle.flat.specs.FlatLaws.{flat-width}
-use Rattle.replay.specs.Interface.{Reply, gives, number, outAfter, lengthWritten, Replies, replyBy, stateReply, imageReply, renameBy, widthRefusal, onState, numberAndLength, verdictWidth, numberBytes, verdictBytes}
+use Rattle.replay.specs.Interface.{Reply, refuses, gives, number, outAfter, lengthWritten, Replies, replyBy, stateReply, outcomeReply, imageReply, renameBy, widthRefusal, onState, numberAndLength, verdictWidth, numberBytes, verdictBytes}
 
 -- ---- replies
 -- the answer's own number refuses
 pub replies-refused : (n : ℕ) (reply : Reply) (out : List ℕ) → (n ≡ accepted → ⊥) → Replies (replyBy n reply) out n out
-unfolding replyBy number outAfter
-replies-refused zero reply out h = absurd (h refl)
-replies-refused (suc n) reply out h = (refl, refl)
+unfolding number outAfter
+replies-refused n reply out h = rw (← by-refused n refuses reply h) (refl, refl)
 
 -- it does not
 reply-accepted : (n : ℕ) (reply : Reply) → n ≡ accepted → reply ≡ replyBy n reply
-unfolding replyBy
-reply-accepted n reply h = rw h
+reply-accepted n reply h = by-accepted n refuses reply h
 
 -- the buffer is short, or holds the answer
 module _ (n : ℕ) (bytes out : List ℕ) (h : n ≡ accepted) where
@@ -60,10 +59,9 @@ module _ (n : ℕ) (bytes out : List ℕ) (h : n ≡ accepted) where
       (sym (cond-false _ _ _ (le-ltb (length out) (length bytes) k)), stored-front w k ∙ sym (cond-false _ _ _ (le-ltb (length out) (length bytes) k)))
 
 -- a number that refuses says all: the state beside it does not count
-reply-refused : (n : ℕ) (s t : State) → (n ≡ accepted → ⊥) → stateReply (answer n s) ≡ stateReply (answer n t)
-unfolding stateReply replyBy
-reply-refused zero s t h = absurd (h refl)
-reply-refused (suc n) s t h = refl
+reply-refused : (n : ℕ) (s t : State) → (n ≡ accepted → ⊥) → stateReply n s ≡ stateReply n t
+unfolding stateReply
+reply-refused n s t h = sym (by-refused n refuses (gives (flat s)) h) ∙ by-refused n refuses (gives (flat t)) h
 
 -- ---- a state that comes as bytes
 -- it has 226
@@ -93,9 +91,8 @@ on-state-refused state reply out n e h = rw e (replies-refused (widthRefusal sta
 
 -- such an answer has no length
 alone : (n : ℕ) (reply : Reply) (out : List ℕ) → (n ≡ accepted → ⊥) → n ≡ numberAndLength (replyBy n reply) out
-unfolding replyBy numberAndLength number lengthWritten
-alone zero reply out h = absurd (h refl)
-alone (suc n) reply out h = omega arith
+unfolding numberAndLength number lengthWritten
+alone n reply out h = rw (← by-refused n refuses reply h) (omega arith)
 
 pub on-state-alone : (state : List ℕ) (reply : State → Reply) (out : List ℕ) (n : ℕ) → n ≡ widthRefusal state → (n ≡ accepted → ⊥)
     → n ≡ numberAndLength (onState state reply) out
@@ -115,14 +112,13 @@ module _ (s : State) (places : List ℕ) where
   pub rename-uncounted-broken : (length places ≡ 5 → ⊥) → (stateRefusal s ≡ accepted → ⊥) → answer (stateRefusal s) s ≡ renameBy s places
   unfolding renameBy
   rename-uncounted-broken h k =
-      let p = refusal-broken s k in
-      ap (λ (n : ℕ). answer n s) (p .1 ∙ refuse-yes (not (rules s)) brokenState notRenaming (ap not (p .0)))
+      ap (λ (n : ℕ). answer n s) (first-yes (stateRefusal s) notRenaming k)
       ∙ sym (cond-false _ _ _ (ne-eqb (length places) 5 h))
 
   pub rename-uncounted : (length places ≡ 5 → ⊥) → rules s ≡ true → answer notRenaming s ≡ renameBy s places
   unfolding renameBy
   rename-uncounted h k =
-      ap (λ (n : ℕ). answer n s) (refuse-no (not (rules s)) brokenState notRenaming (ap not k))
+      ap (λ (n : ℕ). answer n s) (first-no (stateRefusal s) notRenaming (met-refusal s k))
       ∙ sym (cond-false _ _ _ (ne-eqb (length places) 5 h))
 
 -- ---- weak and strong ISR
@@ -135,12 +131,24 @@ bool-byte false = refl
 -- what is written of an image, and its length, which is small
 pub record ImageReplies (s : State) (out : List ℕ) : Type 0 where
   pub small : writeImage s out .length ≤ 227
-  pub few : writeImage s out .refusal ≤ 24
+  pub few : writeImage s out .refusal ≤ 255
   pub answer : writeImage s out .refusal + 256 * writeImage s out .length ≡ numberAndLength (imageReply s) out
   pub after : bufferAfter s out ≡ outAfter (imageReply s) out
 
+image-few : (s : State) (out : List ℕ) → writeImage s out .refusal ≤ 255
+unfolding every
+image-few s out = listed-most (accepted ∷ writeNumbers) 255 (writeImage s out .refusal) refl (write-listed s out)
+
+image-refused : (s : State) → rules s ≡ false → imageReply s ≡ refuses (stateRefusal s)
+unfolding imageReply
+image-refused s h = sym (by-refused (stateRefusal s) refuses (gives (image s)) (broken-refusal s h))
+
+image-given : (s : State) → rules s ≡ true → imageReply s ≡ gives (image s)
+unfolding imageReply
+image-given s h = sym (by-accepted (stateRefusal s) refuses (gives (image s)) (met-refusal s h))
+
 pub image-replies : (s : State) (out : List ℕ) → ImageReplies s out
-unfolding imageReply numberAndLength number lengthWritten outAfter
+unfolding numberAndLength number lengthWritten outAfter
 image-replies s out = go (rules s) refl
   where
     go : (b : Bool) → rules s ≡ b → ImageReplies s out
@@ -148,9 +156,9 @@ image-replies s out = go (rules s) refl
         let w = writes-broken s out h in
         record {
           small = rw (← (w .0)) (omega arith);
-          few = rw (← (w .0)) (omega arith);
-          answer = rw (← (w .0), h) refl;
-          after = rw (← (w .1), h) refl;
+          few = image-few s out;
+          answer = rw (← (w .0), image-refused s h) refl;
+          after = rw (← (w .1), image-refused s h) refl;
         }
     go true h =
         elim (decLt (length out) (length (image s))) [
@@ -159,9 +167,9 @@ image-replies s out = go (rules s) refl
               let t = lt-ltb (length out) (length (image s)) l in
               record {
                 small = rw (← (w .0)) (omega arith);
-                few = rw (← (w .0)) (omega arith);
-                answer = rw (← (w .0), h, t) refl;
-                after = rw (← (w .1), h, t) refl;
+                few = image-few s out;
+                answer = rw (← (w .0), image-given s h, t) refl;
+                after = rw (← (w .1), image-given s h, t) refl;
               }
           | no l ↦
               let k : length (image s) ≤ length out = omega arith in
@@ -169,33 +177,43 @@ image-replies s out = go (rules s) refl
               let t = le-ltb (length out) (length (image s)) k in
               record {
                 small = rw (← (w .0)) (image-most s h);
-                few = rw (← (w .0)) (omega arith);
-                answer = rw (← (w .0), h, t) refl;
-                after = rw (← (w .1), h, t) refl;
+                few = image-few s out;
+                answer = rw (← (w .0), image-given s h, t) refl;
+                after = rw (← (w .1), image-given s h, t) refl;
               }
         ]
 
 -- an image whose parts are not all there refuses
-pub read-refuses : (bytes out : List ℕ) (n : ℕ) → n ≡ layoutRefusal bytes → (n ≡ accepted → ⊥) → Replies (stateReply (readImage bytes)) out n out
+pub read-refuses : (bytes out : List ℕ) (n : ℕ) → n ≡ layoutRefusal bytes → (n ≡ accepted → ⊥) → Replies (outcomeReply (readImage bytes)) out n out
 unfolding stateReply
 read-refuses bytes out n e h =
-    subst (λ (o : Outcome). Replies (stateReply o) out n out) (read-refused bytes n e h) (replies-refused n (gives (flat zeroState)) out h)
+    subst (λ (o : Outcome). Replies (outcomeReply o) out n out) (read-refused bytes n e h) (replies-refused n (gives (flat zeroState)) out h)
 
 -- one whose parts are all there gives its state, or refuses by the state's own number
 read-gives : (bytes : List ℕ) (s : State) → layoutRefusal bytes ≡ accepted → bodyOf bytes ≡ parsed s []
-    → stateReply (answer (stateRefusal s) s) ≡ stateReply (readImage bytes)
+    → stateReply (stateRefusal s) s ≡ outcomeReply (readImage bytes)
 read-gives bytes s laid is =
     elim (ℕ-discrete (stateRefusal s) accepted) [
-      | yes q ↦ ap (λ (n : ℕ). stateReply (answer n s)) q ∙ ap stateReply (read-met bytes s laid is q)
-      | no q ↦ reply-refused (stateRefusal s) s zeroState q ∙ ap stateReply (read-unmet bytes s laid is q)
+      | yes q ↦ ap (λ (n : ℕ). stateReply n s) q ∙ ap outcomeReply (read-met bytes s laid is q)
+      | no q ↦ reply-refused (stateRefusal s) s zeroState q ∙ ap outcomeReply (read-unmet bytes s laid is q)
     ]
 
 pub read-replies : (bytes : List ℕ) (s : State) (out : List ℕ) (k n : ℕ) (after : List ℕ) → layoutRefusal bytes ≡ accepted → bodyOf bytes ≡ parsed s []
-    → k ≡ stateRefusal s → Replies (stateReply (answer k s)) out n after → Replies (stateReply (readImage bytes)) out n after
+    → k ≡ stateRefusal s → Replies (stateReply k s) out n after → Replies (outcomeReply (readImage bytes)) out n after
 read-replies bytes s out k n after laid is e r =
-    subst (λ (m : Reply). Replies m out n after) (ap (λ (i : ℕ). stateReply (answer i s)) e ∙ read-gives bytes s laid is) r
+    subst (λ (m : Reply). Replies m out n after) (ap (λ (i : ℕ). stateReply i s) e ∙ read-gives bytes s laid is) r
 
 -- ---- verdicts
 pub verdict-width : (v : Verdict) → length (verdictBytes v) ≡ verdictWidth
 unfolding verdictBytes numberBytes
 verdict-width v = let e = flat-width (v .state) in omega arith
+
+-- ---- a refusal leaves `out` as it was
+pub refused-leaves : (reply : Reply) (out : List ℕ) → (number reply out ≡ accepted → ⊥) → outAfter reply out ≡ out
+unfolding number outAfter
+refused-leaves (refuses n) out h = refl
+refused-leaves (gives bytes) out h = go (ltb (length out) (length bytes)) h
+  where
+    go : (short : Bool) → (cond short bufferShort accepted ≡ accepted → ⊥) → cond short out (bytes ++ drop (length bytes) out) ≡ out
+    go true f = refl
+    go false f = absurd (f refl)

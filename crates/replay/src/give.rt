@@ -3,10 +3,10 @@ ghost use Prim.Native.Nat.{_+_, _≤_};
 ghost use lib.ListN.{length};
 ghost use Rattle.logic.specs.Stores.{Stored};
 ghost use Rattle.replay.specs.Interface.{Replies, gives, stateReply, isrReply, offerReply, numberBytes, threeNumbers, verdictWidth, verdictBytes};
-use cluster::Outcome;
+use cluster::State;
 use flat::WIDTH;
 use flat::write::put_state;
-use images::write::put_pair;
+use parts::bytes::put_bytes;
 use parts::refusal::ACCEPTED;
 use parts::refusal::BUFFER_SHORT;
 use questions::IsrAnswer;
@@ -20,17 +20,17 @@ const OFFER_WIDTH: usize = 3;
 
 const VERDICT_WIDTH: usize = 250;
 
-// A state.
-pub(crate) fn give_state(answer: Outcome, out: &mut [u8]) -> u8
-    ensures { λ n. ⌜ Replies (stateReply answer) (now (out .entry)) n (now (out .exit)) ⌝ }
+// A state, by the number that goes with it.
+pub(crate) fn give_state(refusal: u8, state: State, out: &mut [u8]) -> u8
+    ensures { λ n. ⌜ Replies (stateReply refusal state) (now (out .entry)) n (now (out .exit)) ⌝ }
 {
-    if answer.refusal != ACCEPTED {
-        return answer.refusal;
+    if refusal != ACCEPTED {
+        return refusal;
     }
     if out.len() < WIDTH {
         return BUFFER_SHORT;
     }
-    put_state(&mut out[..], 0, answer.state);
+    put_state(&mut out[..], 0, state);
     ACCEPTED
 }
 
@@ -44,10 +44,13 @@ pub(crate) fn give_isr(answer: IsrAnswer, out: &mut [u8]) -> u8
     if out.len() < ISR_WIDTH {
         return BUFFER_SHORT;
     }
-    out[0] = answer.holds as u8;
-    out[1] = answer.leader;
-    out[2] = answer.member;
-    out[3] = answer.offset;
+    let bytes = [
+        answer.holds as u8,
+        answer.leader,
+        answer.member,
+        answer.offset,
+    ];
+    put_bytes(&mut out[..], 0, &bytes);
     ACCEPTED
 }
 
@@ -61,9 +64,8 @@ pub(crate) fn give_offer(answer: OfferAnswer, out: &mut [u8]) -> u8
     if out.len() < OFFER_WIDTH {
         return BUFFER_SHORT;
     }
-    out[0] = answer.a;
-    out[1] = answer.b;
-    out[2] = answer.e;
+    let bytes = [answer.a, answer.b, answer.e];
+    put_bytes(&mut out[..], 0, &bytes);
     ACCEPTED
 }
 
@@ -72,13 +74,13 @@ fn put_number(out: &mut [u8], at: usize, n: usize) -> usize
     requires { ⌜ at + 4 ≤ length (now out) ⌝ }
     ensures { λ r. ⌜ Stored (now (out .entry)) at (numberBytes n) (now (out .exit)) r ⌝ }
 {
-    let high = put_pair(&mut out[..], at, (n % 256) as u8, (n / 256 % 256) as u8);
-    put_pair(
-        &mut out[..],
-        high,
+    let bytes = [
+        (n % 256) as u8,
+        (n / 256 % 256) as u8,
         (n / 65536 % 256) as u8,
         (n / 16777216 % 256) as u8,
-    )
+    ];
+    put_bytes(&mut out[..], at, &bytes)
 }
 
 // Three numbers. The caller shows that the buffer has room for twelve bytes.
@@ -96,8 +98,9 @@ fn put_verdict(out: &mut [u8], v: Verdict) -> usize
     requires { ⌜ verdictWidth ≤ length (now out) ⌝ }
     ensures { λ r. ⌜ Stored (now (out .entry)) 0 (verdictBytes v) (now (out .exit)) r ⌝ }
 {
-    let weak = put_three(&mut out[..], 0, v.accepted, v.refusal as usize, v.at);
-    let state = put_three(&mut out[..], weak, v.weak, v.strong, v.exposed as usize);
+    let t = v.tally;
+    let weak = put_three(&mut out[..], 0, t.accepted, v.refusal as usize, v.at);
+    let state = put_three(&mut out[..], weak, t.weak, t.strong, t.exposed as usize);
     put_state(&mut out[..], state, v.state)
 }
 

@@ -9,7 +9,6 @@ ghost use mathlib.Core.Path.{_≡_};
 ghost use Rattle.replay.specs.Interface.{Replies, numberAndLength, outAfter, replayFresh, replayAct, replayWeak, replayStrong, replayOffer, replayWriteImage, replayReadImage, replayRename, replayRepresentative, replayJudge};
 use cluster::Action;
 use cluster::Limits;
-use cluster::Outcome;
 use cluster::State;
 use flat::read::state_of;
 use parts::refusal::ACCEPTED;
@@ -25,7 +24,8 @@ pub extern "C" fn replay_fresh(r: u8, l: u8, m: u8, x: u8, out: &mut [u8]) -> u8
         max_records: m,
         max_leader_epoch: x,
     };
-    give::give_state(State::fresh(limits), &mut out[..])
+    let fresh = State::fresh(limits);
+    give::give_state(fresh.refusal, fresh.state, &mut out[..])
 }
 
 // The state after an action.
@@ -43,7 +43,8 @@ pub extern "C" fn replay_act(state: &[u8], kind: u8, a: u8, b: u8, e: u8, out: &
         b: b,
         e: e,
     };
-    give::give_state(state_of(state).act(action), &mut out[..])
+    let answer = state_of(state).act(action);
+    give::give_state(answer.refusal, answer.state, &mut out[..])
 }
 
 // Whether weak ISR holds, or its smallest failure.
@@ -105,11 +106,7 @@ pub extern "C" fn replay_read_image(bytes: &[u8], out: &mut [u8]) -> u8
         return refusal;
     }
     let s = images::read::state_of(bytes);
-    let outcome = Outcome {
-        refusal: s.state_refusal(),
-        state: s,
-    };
-    give::give_state(outcome, &mut out[..])
+    give::give_state(s.state_refusal(), s, &mut out[..])
 }
 
 // The state under a renaming.
@@ -121,7 +118,8 @@ pub extern "C" fn replay_rename(state: &[u8], places: &[u8], out: &mut [u8]) -> 
     if refusal != ACCEPTED {
         return refusal;
     }
-    give::give_state(take::rename_by(state_of(state), places), &mut out[..])
+    let renamed = take::rename_by(state_of(state), places);
+    give::give_state(renamed.refusal, renamed.state, &mut out[..])
 }
 
 // The representative of a state.
@@ -133,10 +131,8 @@ pub extern "C" fn replay_representative(state: &[u8], out: &mut [u8]) -> u8
     if refusal != ACCEPTED {
         return refusal;
     }
-    give::give_state(
-        representatives::representative(state_of(state)),
-        &mut out[..],
-    )
+    let least = representatives::representative(state_of(state));
+    give::give_state(least.refusal, least.state, &mut out[..])
 }
 
 // The verdict of a run. It refuses only by 24: the refusal of a run is a field of its verdict.

@@ -3,7 +3,7 @@ use native.Mathlib.Omega.{arith}
 use borrow.Author.Needs.{needs}
 use Rattle.cluster.specs.declared.State.{State}
 use Rattle.cluster.specs.Act.{actionOf, act}
-use Rattle.replay.specs.Interface.{stateReply, replayAct}
+use Rattle.replay.specs.Interface.{actionReply, replayAct}
 use Rattle.replay.specs.InterfaceLaws.{width-right, on-state-replies, on-state-refused}
 use Rattle.replay.proofs.replay_act.Statement.{statement}
 use Rattle.replay.proofs.replay_act.Tie as tie
@@ -33,8 +33,8 @@ returns-2 : tie.Need-returns-2
 unfolding replayAct
 returns-2 c =
     let a = c .before .before .before .before .before .before .before .before .before .before .args in
-    on-state-replies (a .state .now) (λ (s : State). stateReply (act s (actionOf (a .kind) (a .a) (a .b) (a .e)))) _ _ _ _ (sym (c .before .before .before .before .before .before .before .width-refusal .ensures) ∙ c .before .before .before .before .before .before .if1 .left)
-    (ap stateReply (c .before .before .before .before .act .ensures ∙ ap (λ (s : State). act s (actionOf (a .kind) (a .a) (a .b) (a .e))) (c .before .before .before .before .before .state-of .ensures)))
+    on-state-replies (a .state .now) (λ (s : State). actionReply (act s (actionOf (a .kind) (a .a) (a .b) (a .e)))) _ _ _ _ (sym (c .before .before .before .before .before .before .before .width-refusal .ensures) ∙ c .before .before .before .before .before .before .if1 .left)
+    (ap actionReply (c .before .before .before .before .act .ensures ∙ ap (λ (s : State). act s (actionOf (a .kind) (a .a) (a .b) (a .e))) (c .before .before .before .before .before .state-of .ensures)))
     (c .before .before .give-state .ensures)
 
 pub replay-act-spec : {M : Type 1} → statement M

@@ -2,7 +2,7 @@ use mathlib.Core.Path.{sym, _∙_, ap}
 use native.Mathlib.Omega.{arith}
 use borrow.Author.Needs.{needs}
 use Rattle.cluster.specs.declared.State.{State}
-use Rattle.replay.specs.Interface.{stateReply, renameBy, replayRename}
+use Rattle.replay.specs.Interface.{outcomeReply, renameBy, replayRename}
 use Rattle.replay.specs.InterfaceLaws.{width-right, on-state-replies, on-state-refused}
 use Rattle.replay.proofs.replay_rename.Statement.{statement}
 use Rattle.replay.proofs.replay_rename.Tie as tie
@@ -32,8 +32,8 @@ returns-2 : tie.Need-returns-2
 unfolding replayRename
 returns-2 c =
     let a = c .before .before .before .before .before .before .before .before .before .before .before .args in
-    on-state-replies (a .state .now) (λ (s : State). stateReply (renameBy s (a .places .now))) _ _ _ _ (sym (c .before .before .before .before .before .before .before .width-refusal .ensures) ∙ c .before .before .before .before .before .before .if1 .left)
-    (ap stateReply (c .before .before .before .before .rename-by .ensures ∙ ap (λ (s : State). renameBy s (a .places .now)) (c .before .before .before .before .before .state-of .ensures)))
+    on-state-replies (a .state .now) (λ (s : State). outcomeReply (renameBy s (a .places .now))) _ _ _ _ (sym (c .before .before .before .before .before .before .before .width-refusal .ensures) ∙ c .before .before .before .before .before .before .if1 .left)
+    (ap outcomeReply (c .before .before .before .before .rename-by .ensures ∙ ap (λ (s : State). renameBy s (a .places .now)) (c .before .before .before .before .before .state-of .ensures)))
     (c .before .before .give-state .ensures)
 
 pub replay-rename-spec : {M : Type 1} → statement M

@@ -3,7 +3,7 @@ use native.Mathlib.Omega.{arith}
 use borrow.Author.Needs.{needs}
 use Rattle.cluster.specs.declared.State.{State}
 use Rattle.representatives.specs.Representative.{represent}
-use Rattle.replay.specs.Interface.{stateReply, replayRepresentative}
+use Rattle.replay.specs.Interface.{outcomeReply, replayRepresentative}
 use Rattle.replay.specs.InterfaceLaws.{width-right, on-state-replies, on-state-refused}
 use Rattle.replay.proofs.replay_representative.Statement.{statement}
 use Rattle.replay.proofs.replay_representative.Tie as tie
@@ -33,8 +33,8 @@ returns-2 : tie.Need-returns-2
 unfolding replayRepresentative
 returns-2 c =
     let a = c .before .before .before .before .before .before .before .before .before .before .args in
-    on-state-replies (a .state .now) (λ (s : State). stateReply (represent s)) _ _ _ _ (sym (c .before .before .before .before .before .before .before .width-refusal .ensures) ∙ c .before .before .before .before .before .before .if1 .left)
-    (ap stateReply (c .before .before .before .before .representative .ensures ∙ ap (λ (s : State). represent s) (c .before .before .before .before .before .state-of .ensures)))
+    on-state-replies (a .state .now) (λ (s : State). outcomeReply (represent s)) _ _ _ _ (sym (c .before .before .before .before .before .before .before .width-refusal .ensures) ∙ c .before .before .before .before .before .before .if1 .left)
+    (ap outcomeReply (c .before .before .before .before .representative .ensures ∙ ap (λ (s : State). represent s) (c .before .before .before .before .before .state-of .ensures)))
     (c .before .before .give-state .ensures)
 
 pub replay-representative-spec : {M : Type 1} → statement M
