@@ -1,0 +1,327 @@
+-- The three demands, in their own order and words. Each is one statement over every state, action, row of bytes and renaming that it
+-- speaks of; below it stands its proof, which cites. The contract of each entry point is an equation with one of these definitions, for
+-- every input, or says that it replies what such an answer gives (`Replies`, of the C interface); so what holds of the definitions holds
+-- of what the library answers. That the functions end and are safe is part of their proofs. A state, action or buffer is any value of
+-- its type, and bytes are any list of numbers; where only numbers below 256 are meant, `Bytes` says so. Assumes nothing.
+use Prim.Native.Nat.{ℕ, suc, _≤_, _<_, _+_, _*_}
+use mathlib.Core.Path.{_≡_, sym, ap, _∙_, refl}
+use mathlib.Core.Bool.{true, false, not}
+use mathlib.Core.List.{List, _∷_, _++_}
+use mathlib.Core.Logic.{_↔_, _⊎_}
+use native.Mathlib.Omega.{arith}
+use lib.Dec.{ltb}
+use lib.ListN.{length, drop}
+use Rattle.logic.specs.Tests.{refuted-iff}
+use Rattle.logic.specs.Order.{precedes}
+use Rattle.logic.specs.Refuse.{refuse, listed}
+use Rattle.parts.specs.Refusal.{accepted, wrongMark, tooShort, badConfiguration, runTooLong, bufferShort, notRenaming}
+use Rattle.parts.specs.Mark.{marked}
+use Rattle.parts.specs.Isr.{member}
+use Rattle.parts.specs.Bytes.{Bytes}
+use Rattle.cluster.specs.declared.Limits.{Limits}
+use Rattle.cluster.specs.declared.State.{State}
+use Rattle.cluster.specs.declared.Action.{Action}
+use Rattle.cluster.specs.State.{limitsOf, replicaCount, replicaAt, Same, tidy, zeroState, nextLeaderEpoch, nextRecordId, requestAt}
+use Rattle.cluster.specs.Outcome.{answer, withZeros, asGiven}
+use Rattle.cluster.specs.Rules.{inRange, rules, stateRefusal, stateNumbers}
+use Rattle.cluster.specs.RuleLaws.{broken-refusal, broken-listed-iff}
+use Rattle.cluster.specs.Predicates.{Rules, rules-iff}
+use Rattle.cluster.specs.Equality.{tidy-same}
+use Rattle.cluster.specs.Fresh.{freshState, fresh}
+use Rattle.cluster.specs.FreshLaws.{freshNumbers, fresh-listed, fresh-refused-zero, fresh-in, fresh-out}
+use Rattle.cluster.specs.Actions.{replicaPresumesLeadership}
+use Rattle.cluster.specs.Act.{actionAnswer, refusedOn, act}
+use Rattle.actions.specs.Kept.{Kept, act-kept}
+use Rattle.actions.specs.Answers.{actionNumbers, act-number, act-given, act-unmet, refusal-listed}
+use Rattle.questions.specs.declared.Property.{Property}
+use Rattle.questions.specs.Isr.{isrRefused, askIsr}
+use Rattle.questions.specs.IsrTheorems.{isr-broken, isr-listed, isr-number}
+use Rattle.questions.specs.Offer.{offerRefused, offer}
+use Rattle.questions.specs.OfferTheorems.{offerNumbers, offer-listed, offer-broken-is, offer-zeros}
+use Rattle.images.specs.Image.{image, written, writeImage, bufferAfter}
+use Rattle.images.specs.WriteLaws.{writeNumbers, write-listed, write-refused, writes-broken, writes-all, writes-short}
+use Rattle.images.specs.Read.{readImage}
+use Rattle.images.specs.RoundTrip.{image-bytes, read-meets-rules}
+use Rattle.images.specs.ImageTheorems.{readNumbers, read-listed, read-refused-zero, read-iff-image, read-equal-is-image, image-iff}
+use Rattle.renamings.specs.Names.{newName, oldName, isRenaming}
+use Rattle.renamings.specs.Places.{HoldsOnce, renaming-iff}
+use Rattle.renamings.specs.Rename.{renameAction, renamed, Renames, rename, renameIsr, renameQuorum, renameRequest, renameReplica}
+use Rattle.renamings.specs.CodeLaws.{renameNumbers, rename-listed, rename-given, rename-broken, rename-fits, rename-unfit}
+use Rattle.renamings.specs.RenameTheorems.{renamed-act, renamed-rest, renamed-quorum, renamed-request, renamed-block, renamed-member}
+use Rattle.representatives.specs.Representative.{representative, represent}
+use Rattle.representatives.specs.CodeLaws.{represent-listed, represent-given, represent-broken, represent-is, represent-number}
+use Rattle.representatives.specs.RepresentativeTheorems.{is-renamed, equal-or-greater, representatives-equal}
+use Rattle.published.specs.KafkaReplication.{ModelState, Init, WeakIsr, StrongIsr, Next}
+use Rattle.published.specs.Meaning.{constantsOf, meaning, Means}
+use Rattle.published.specs.Choices.{Choice}
+use Rattle.published.specs.Engine.{action-is-published}
+use Rattle.published.specs.Behaviours.{next-is-accepted}
+use Rattle.published.specs.Equality.{same-model-refl}
+use Rattle.published.specs.OneToOne.{one-to-one}
+use Rattle.runs.specs.Run.{configurationWidth, recordWidth, longestRun, configurationMark, actionMark, actionIn, opening, unopened, judge}
+use Rattle.runs.specs.RecordLaws.{record-whole}
+use Rattle.runs.specs.Opening.{firstState, judge-unopened}
+use Rattle.verdicts.specs.RenameRun.{renameRun, RenamesRun, renameVerdict}
+use Rattle.verdicts.specs.RunRenamed.{run-renamed}
+use Rattle.verdicts.specs.RunBehaviour.{nextRecord, stateAt, constantsIn, Joins, opening-is, opens-fresh, run-is-behaviour, record-joins, refused-not-allowed, reached}
+use Rattle.verdicts.specs.RunProperties.{weak-never, weak-first, strong-never, strong-first, exposed-run-at, exposed-run-by}
+use Rattle.verdicts.specs.VerdictLaws.{StopsAt, refused-record, runNumbers, run-listed, accepted-fills, accepted-at, refused-by}
+use Rattle.replay.specs.Interface.{Reply, number, outAfter}
+use Rattle.replay.specs.InterfaceLaws.{refused-leaves}
+
+-- "1. Every state, action, image or run of bytes gets an answer. Broken input is refused by number, the caller need test nothing
+-- first, and a refusal gives back the state it was given, or the one a run had reached, all zeros where there is none, and writes
+-- nothing to a lent buffer."
+pub record Demand1 : Type 0 where
+  -- "gets an answer", "refused by number": each has 0, or a number of its list
+  pub fresh-answers : (c : Limits) → listed (accepted ∷ freshNumbers) (fresh c .refusal) ≡ true
+  pub action-answers : (s : State) (action : Action) → listed (accepted ∷ stateNumbers ++ actionNumbers) (act s action .refusal) ≡ true
+  pub isr-answers : (property : Property) (s : State) → listed (accepted ∷ stateNumbers) (askIsr property s .refusal) ≡ true
+  pub offer-answers : (s : State) (kind : ℕ) → listed (accepted ∷ offerNumbers) (offer s kind .refusal) ≡ true
+  pub writing-answers : (s : State) (buffer : List ℕ) → listed (accepted ∷ writeNumbers) (writeImage s buffer .refusal) ≡ true
+  pub reading-answers : (bs : List ℕ) → listed (accepted ∷ readNumbers) (readImage bs .refusal) ≡ true
+  pub renaming-answers : (s : State) (p : List ℕ) → listed (accepted ∷ renameNumbers) (rename s p .refusal) ≡ true
+  pub representative-answers : (s : State) → listed (accepted ∷ stateNumbers) (represent s .refusal) ≡ true
+  -- "Broken input is refused": a configuration exactly where it is out of range, an image that gives no state of the rules, places that
+  -- are no renaming, a buffer that is too short; and a question on weak or strong ISR, or for a representative, by nothing but the state
+  pub fresh-in-range : (c : Limits) → inRange c ≡ true → fresh c ≡ answer accepted (freshState c)
+  pub fresh-out-of-range : (c : Limits) → inRange c ≡ false → fresh c ≡ withZeros badConfiguration
+  pub read-meets-the-rules : (bs : List ℕ) → readImage bs .refusal ≡ accepted → rules (readImage bs .state) ≡ true
+  pub other-places : (s : State) → rules s ≡ true → (p : List ℕ) → (Renames s p → ⊥) → rename s p ≡ asGiven s notRenaming
+  pub short-buffer : (s : State) (buffer : List ℕ) → rules s ≡ true → length buffer < length (image s)
+      → (writeImage s buffer ≡ written bufferShort 0) × (bufferAfter s buffer ≡ buffer)
+  pub isr-by-state : (property : Property) (s : State) → askIsr property s .refusal ≡ stateRefusal s
+  pub representative-by-state : (s : State) → represent s .refusal ≡ stateRefusal s
+  -- "the caller need test nothing first": whatever is asked of a state that breaks a rule, the answer is the state's own number. The
+  -- rules are tests; what they test is said by `Rules`
+  pub state-rules : (s : State) → rules s ≡ true ↔ Rules s
+  pub broken-number : (s : State) → rules s ≡ false ↔ listed stateNumbers (stateRefusal s) ≡ true
+  pub broken-action : (s : State) (action : Action) → rules s ≡ false → act s action ≡ refusedOn s (stateRefusal s)
+  pub broken-isr : (property : Property) (s : State) → rules s ≡ false → askIsr property s ≡ isrRefused (stateRefusal s)
+  pub broken-offer : (s : State) (kind : ℕ) → rules s ≡ false → offer s kind ≡ offerRefused (stateRefusal s)
+  pub broken-writing : (s : State) (buffer : List ℕ) → rules s ≡ false → writeImage s buffer ≡ written (stateRefusal s) 0
+  pub broken-renaming : (s : State) (p : List ℕ) → rules s ≡ false → rename s p ≡ asGiven s (stateRefusal s)
+  pub broken-representative : (s : State) → rules s ≡ false → represent s ≡ asGiven s (stateRefusal s)
+  -- "a refusal gives back the state it was given"
+  pub action-gives-back : (s : State) (action : Action) → (act s action .refusal ≡ accepted → ⊥) → act s action .state ≡ s
+  pub renaming-gives-back : (s : State) (p : List ℕ) → (rename s p .refusal ≡ accepted → ⊥) → rename s p .state ≡ s
+  pub representative-gives-back : (s : State) → (represent s .refusal ≡ accepted → ⊥) → represent s .state ≡ s
+  -- "all zeros where there is none"
+  pub fresh-zeros : (c : Limits) → (fresh c .refusal ≡ accepted → ⊥) → fresh c ≡ withZeros badConfiguration
+  pub reading-zeros : (bs : List ℕ) → (readImage bs .refusal ≡ accepted → ⊥) → readImage bs .state ≡ zeroState
+  pub offer-gives-zeros : (s : State) (kind : ℕ) → (offer s kind .refusal ≡ accepted → ⊥) → offer s kind ≡ offerRefused (offer s kind .refusal)
+  -- "and writes nothing to a lent buffer"
+  pub writing-leaves : (s : State) (buffer : List ℕ) → (writeImage s buffer .refusal ≡ accepted → ⊥) → bufferAfter s buffer ≡ buffer
+  -- and of the C interface: whatever a function has to say, where the number refuses, `out` stays as it was
+  pub interface-leaves : (reply : Reply) (out : List ℕ) → (number reply out ≡ accepted → ⊥) → outAfter reply out ≡ out
+  -- of a run of any bytes: its numbers; "the one a run had reached", which is the state behind its accepted records; and zeros where no
+  -- configuration is accepted
+  pub run-answers : (run : List ℕ) → listed (accepted ∷ runNumbers) (judge run .refusal) ≡ true
+  pub run-reached : (run : List ℕ) → opening run .refusal ≡ accepted → judge run .state ≡ stateAt run (judge run .tally .accepted)
+  pub run-zeros : (run : List ℕ) → (opening run .refusal ≡ accepted → ⊥) → judge run ≡ unopened (opening run .refusal)
+
+pub demand-1 : Demand1
+demand-1 =
+    record {
+      fresh-answers = fresh-listed;
+      action-answers = λ s action. ap (listed (accepted ∷ stateNumbers ++ actionNumbers)) (act-number s action) ∙ refusal-listed s action;
+      isr-answers = isr-listed;
+      offer-answers = offer-listed;
+      writing-answers = write-listed;
+      reading-answers = read-listed;
+      renaming-answers = rename-listed;
+      representative-answers = represent-listed;
+      fresh-in-range = fresh-in;
+      fresh-out-of-range = fresh-out;
+      read-meets-the-rules = λ bs ok. read-meets-rules bs (readImage bs .state) (ap (λ (n : ℕ). answer n (readImage bs .state)) ok);
+      other-places = λ s h p f. sym (rename-unfit s p h (refuted-iff (isRenaming (replicaCount (s .limits)) p) ((λ e. e), (λ e. e)) .0 f));
+      short-buffer = λ s buffer h k. let w = writes-short s buffer h k in (sym (w .0), sym (w .1));
+      isr-by-state = isr-number;
+      representative-by-state = represent-number;
+      state-rules = rules-iff;
+      broken-number = broken-listed-iff;
+      broken-action = act-unmet;
+      broken-isr = isr-broken;
+      broken-offer = offer-broken-is;
+      broken-writing = λ s buffer h. sym (writes-broken s buffer h .0);
+      broken-renaming = λ s p h. sym (rename-broken s p (broken-refusal s h));
+      broken-representative = λ s h. sym (represent-broken s (broken-refusal s h));
+      action-gives-back = act-given;
+      renaming-gives-back = rename-given;
+      representative-gives-back = represent-given;
+      fresh-zeros = fresh-refused-zero;
+      reading-zeros = read-refused-zero;
+      offer-gives-zeros = offer-zeros;
+      writing-leaves = λ s buffer h. write-refused s buffer h .1;
+      interface-leaves = refused-leaves;
+      run-answers = run-listed;
+      run-reached = reached;
+      run-zeros = judge-unopened;
+    }
+
+-- "2. On a state that meets the state rules, an action is accepted exactly when the model allows it, and the next state is the
+-- model's. A state that meets the state rules has one image in bytes; reading it back gives that state, and no other bytes do. A run's
+-- verdict is what the model says, action by action."
+pub record Demand2 : Type 1 where
+  -- "accepted exactly when the model allows it": `Choice` is the published action of the kind with these operands, from the meaning of
+  -- the state to v
+  pub accepted-where-allowed : (s : State) → rules s ≡ true → (action : Action)
+      → act s action .refusal ≡ accepted ↔ ((v : ModelState) × Choice (constantsOf (s .limits)) action (meaning s) v)
+  -- "and the next state is the model's": the model's next states are those that the next state means, which meets S1 to S7 again
+  pub next-is-the-models : (s : State) → rules s ≡ true → (action : Action) (v : ModelState)
+      → Choice (constantsOf (s .limits)) action (meaning s) v ↔ (act s action .refusal ≡ accepted) × Means (s .limits) v (act s action .state)
+  pub next-keeps-rules : (s : State) (action : Action) → act s action .refusal ≡ accepted → Kept s (act s action .state)
+  -- so the model's steps (`Next`, the disjunction of its actions) are the accepted actions
+  pub steps-are-the-models : (s : State) → rules s ≡ true → (v : ModelState)
+      → Next (constantsOf (s .limits)) (meaning s) v
+      ↔ (action : Action) × (act s action .refusal ≡ accepted) × Means (s .limits) v (act s action .state)
+  -- a meaning has one state, so this fixes the next state
+  pub one-meaning : (s t : State) → rules s ≡ true → rules t ≡ true → s .limits ≡ t .limits → Means (s .limits) (meaning s) t → Same s t
+  -- "has one image in bytes": equal states have one, and no others; it is what is written
+  pub image-is-bytes : (s : State) → rules s ≡ true → Bytes (image s)
+  pub one-image : (s t : State) → rules s ≡ true → rules t ≡ true → image s ≡ image t ↔ Same s t
+  pub image-is-written : (s : State) (buffer : List ℕ) → rules s ≡ true → length (image s) ≤ length buffer
+      → (writeImage s buffer ≡ written accepted (length (image s))) × (bufferAfter s buffer ≡ image s ++ drop (length (image s)) buffer)
+  -- "reading it back gives that state, and no other bytes do": the state with zeros in its unused room, which is equal to it
+  pub read-is-image : (s : State) (bs : List ℕ) → rules s ≡ true → Bytes bs → readImage bs ≡ answer accepted (tidy s) ↔ bs ≡ image s
+  pub tidy-is-equal : (s : State) → Same (tidy s) s
+  pub no-other-bytes : (s t : State) (bs : List ℕ) → Bytes bs → readImage bs ≡ answer accepted t → Same s t → bs ≡ image s
+  -- "A run's verdict is what the model says, action by action." When a run opens, and by which number it does not; it opens with the
+  -- fresh state of its bytes 2 to 5, which the model starts from
+  pub opens : (run : List ℕ) → opening run .refusal
+      ≡ refuse (ltb longestRun (length run)) runTooLong
+      (refuse (ltb (length run) configurationWidth) tooShort
+      (refuse (not (marked configurationMark run)) wrongMark
+      (refuse (not (inRange (limitsOf run))) badConfiguration
+      accepted)))
+  pub starts : (run : List ℕ) → opening run .refusal ≡ accepted → stateAt run 0 ≡ freshState (limitsOf run)
+  pub starts-by-init : (run : List ℕ) → opening run .refusal ≡ accepted → Init (constantsIn run) (meaning (stateAt run 0))
+  -- each accepted record has six bytes of the run and the action mark, and its own action joins the state before it and the next one
+  pub records-join : (run : List ℕ) → opening run .refusal ≡ accepted → (k : ℕ) → k < judge run .tally .accepted → Joins run k
+  -- it goes on to its end, which is accepted exactly where six bytes for each accepted record, and the configuration's, fill the run; or
+  -- to the first record that is refused, at its byte: by 21, then 20, then the number of its action on the state before it. The action of
+  -- a refused record that has six bytes and the mark is one that the model does not allow
+  pub ends : (run : List ℕ) → opening run .refusal ≡ accepted
+      → judge run .refusal ≡ accepted ↔ length run ≡ configurationWidth + recordWidth * judge run .tally .accepted
+  pub ends-at : (run : List ℕ) → judge run .refusal ≡ accepted → judge run .at ≡ length run
+  pub stops : (run : List ℕ) → opening run .refusal ≡ accepted → (judge run .refusal ≡ accepted → ⊥) → StopsAt run
+  pub stops-by : (run : List ℕ) → opening run .refusal ≡ accepted → (judge run .refusal ≡ accepted → ⊥)
+      → judge run .refusal
+      ≡ refuse (ltb (length (nextRecord run)) recordWidth) tooShort
+      (refuse (not (marked actionMark (nextRecord run))) wrongMark
+      (act (judge run .state) (actionIn (nextRecord run)) .refusal))
+  pub stops-rightly : (run : List ℕ) → opening run .refusal ≡ accepted → (judge run .refusal ≡ accepted → ⊥)
+      → length (nextRecord run) ≡ recordWidth → marked actionMark (nextRecord run) ≡ true
+      → (v : ModelState) → Choice (constantsIn run) (actionIn (nextRecord run)) (meaning (judge run .state)) v → ⊥
+  -- weak and strong are 0 exactly where the published property holds of every state of the run, and otherwise the number of the first
+  -- state that fails it
+  pub weak-never-fails : (run : List ℕ) → opening run .refusal ≡ accepted
+      → judge run .tally .weak ≡ 0 ↔ ((n : ℕ) → n ≤ judge run .tally .accepted → WeakIsr (constantsIn run) (meaning (stateAt run n)))
+  pub weak-fails-first : (run : List ℕ) → opening run .refusal ≡ accepted → (i : ℕ) → judge run .tally .weak ≡ suc i
+      → (suc i ≤ judge run .tally .accepted)
+      × (WeakIsr (constantsIn run) (meaning (stateAt run (suc i))) → ⊥)
+      × ((n : ℕ) → n ≤ i → WeakIsr (constantsIn run) (meaning (stateAt run n)))
+  pub strong-never-fails : (run : List ℕ) → opening run .refusal ≡ accepted
+      → judge run .tally .strong ≡ 0 ↔ ((n : ℕ) → n ≤ judge run .tally .accepted → StrongIsr (constantsIn run) (meaning (stateAt run n)))
+  pub strong-fails-first : (run : List ℕ) → opening run .refusal ≡ accepted → (i : ℕ) → judge run .tally .strong ≡ suc i
+      → (suc i ≤ judge run .tally .accepted)
+      × (StrongIsr (constantsIn run) (meaning (stateAt run (suc i))) → ⊥)
+      × ((n : ℕ) → n ≤ i → StrongIsr (constantsIn run) (meaning (stateAt run n)))
+  -- exposed is the greatest hw of a presuming replica in any state of the run
+  pub exposed-least : (run : List ℕ) → opening run .refusal ≡ accepted → (n : ℕ) → n ≤ judge run .tally .accepted
+      → (r : ℕ) → r < replicaCount (firstState run .limits) → replicaPresumesLeadership (stateAt run n) r ≡ true
+      → replicaAt (stateAt run n) r .hw ≤ judge run .tally .exposed
+  pub exposed-most : (run : List ℕ) → opening run .refusal ≡ accepted → (k : ℕ)
+      → ((n : ℕ) → n ≤ judge run .tally .accepted → (r : ℕ) → r < replicaCount (firstState run .limits)
+      → replicaPresumesLeadership (stateAt run n) r ≡ true → replicaAt (stateAt run n) r .hw ≤ k)
+      → judge run .tally .exposed ≤ k
+
+pub demand-2 : Demand2
+demand-2 =
+    record {
+      accepted-where-allowed = λ s h action. (
+        (λ ok. (meaning (act s action .state), action-is-published s h action (meaning (act s action .state)) .1 (ok, same-model-refl (constantsOf (s .limits)) (meaning (act s action .state))))),
+        (λ c. action-is-published s h action (c .0) .0 (c .1) .0),
+      );
+      next-is-the-models = action-is-published;
+      next-keeps-rules = act-kept;
+      steps-are-the-models = λ s h v. next-is-accepted (s .limits) s h refl (meaning s) (same-model-refl (constantsOf (s .limits)) (meaning s)) v;
+      one-meaning = λ s t h k same m. one-to-one s t h k same .0 m;
+      image-is-bytes = image-bytes;
+      one-image = image-iff;
+      image-is-written = λ s buffer h k. let w = writes-all s buffer h k in (sym (w .0), sym (w .1));
+      read-is-image = read-iff-image;
+      tidy-is-equal = tidy-same;
+      no-other-bytes = read-equal-is-image;
+      opens = opening-is;
+      starts = opens-fresh;
+      starts-by-init = λ run ok. run-is-behaviour run ok .0;
+      records-join = record-joins;
+      ends = accepted-fills;
+      ends-at = accepted-at;
+      stops = refused-record;
+      stops-by = refused-by;
+      stops-rightly = λ run ok h six m. refused-not-allowed run ok h (record-whole actionMark (nextRecord run) recordWidth .1 (omega (arith, six), m));
+      weak-never-fails = weak-never;
+      weak-fails-first = weak-first;
+      strong-never-fails = strong-never;
+      strong-fails-first = strong-first;
+      exposed-least = exposed-run-at;
+      exposed-most = exposed-run-by;
+    }
+
+-- "3. Broker numbers are only names. For any two states that meet the state rules of document 01, their representatives are equal
+-- exactly when some renaming turns one state into the other. Such a state's representative is the state under one of its renamings, and
+-- the state's image under every other renaming is equal or greater. For every such state, every renaming and every action, the renamed
+-- action on the renamed state gets the same number, 0 or a refusal, and the state handed back is the first one's, renamed. For every run
+-- of bytes, whatever it holds and wherever it is refused, and for every renaming, the run renamed throughout stops at the same byte.
+-- Every number of its verdict is the same, and its last state, if there is one, is the other's, renamed."
+pub record Demand3 : Type 0 where
+  -- what a renaming is: "the first R hold 0 to R-1 once each, the others their own number"; and what it does: "It gives replica p(i) the
+  -- whole block of replica i, and in every leader, every ISR .. it puts p(i) for i; all else stays"
+  pub is-a-renaming : (n : ℕ) (p : List ℕ) → n ≤ 5 → isRenaming n p ≡ true ↔ HoldsOnce n p
+  pub block-renamed : (s : State) → rules s ≡ true → (p : List ℕ) → Renames s p → (i : ℕ)
+      → replicaAt (renamed p s) (newName p i) ≡ renameReplica (newName p) (oldName p) (replicaAt (tidy s) i)
+  pub quorum-renamed : (s : State) → rules s ≡ true → (p : List ℕ) → Renames s p → renamed p s .quorum ≡ renameQuorum (newName p) (oldName p) (s .quorum)
+  pub requests-renamed : (s : State) → rules s ≡ true → (p : List ℕ) → Renames s p → (e : ℕ)
+      → requestAt (renamed p s) e ≡ renameRequest (newName p) (oldName p) (requestAt (tidy s) e)
+  pub isrs-renamed : (s : State) → rules s ≡ true → (p : List ℕ) → Renames s p → (isr i : ℕ)
+      → member (renameIsr (oldName p) isr) (newName p i) ≡ member isr i
+  pub rest-stays : (s : State) → rules s ≡ true → (p : List ℕ) → Renames s p
+      → (renamed p s .limits ≡ s .limits) × (nextLeaderEpoch (renamed p s) ≡ nextLeaderEpoch s) × (nextRecordId (renamed p s) ≡ nextRecordId s)
+  -- "their representatives are equal exactly when some renaming turns one state into the other"
+  pub representatives : (s t : State) → rules s ≡ true → rules t ≡ true
+      → representative s ≡ representative t ↔ ((p : List ℕ) × Renames s p × Same (renamed p s) t)
+  -- what is answered of such a state is its representative
+  pub answered : (s : State) → rules s ≡ true → represent s ≡ answer accepted (representative s)
+  -- "the state under one of its renamings"
+  pub under-a-renaming : (s : State) → rules s ≡ true → (p : List ℕ) × Renames s p × (representative s ≡ renamed p s)
+  -- "the state's image under every other renaming is equal or greater"
+  pub least-image : (s : State) → rules s ≡ true → (p : List ℕ) → Renames s p
+      → (image (representative s) ≡ image (renamed p s)) ⊎ (precedes (image (representative s)) (image (renamed p s)) ≡ true)
+  -- "the renamed action on the renamed state gets the same number, 0 or a refusal, and the state handed back is the first one's, renamed"
+  pub actions : (s : State) → rules s ≡ true → (p : List ℕ) → Renames s p → (action : Action)
+      → act (renamed p s) (renameAction (replicaCount (s .limits)) (newName p) action)
+      ≡ actionAnswer (act s action .refusal) (renamed p (act s action .state))
+  -- what renaming answers of such a state is that state
+  pub renaming-is : (s : State) → rules s ≡ true → (p : List ℕ) → Renames s p → rename s p ≡ answer accepted (renamed p s)
+  -- "For every run of bytes, whatever it holds and wherever it is refused, and for every renaming": one claim over all bytes
+  pub runs : (run p : List ℕ) → RenamesRun run p → judge (renameRun p run) ≡ renameVerdict p (judge run)
+
+pub demand-3 : Demand3
+demand-3 =
+    record {
+      is-a-renaming = renaming-iff;
+      block-renamed = renamed-block;
+      quorum-renamed = renamed-quorum;
+      requests-renamed = renamed-request;
+      isrs-renamed = renamed-member;
+      rest-stays = renamed-rest;
+      representatives = representatives-equal;
+      answered = λ s h. sym (represent-is s h);
+      under-a-renaming = is-renamed;
+      least-image = equal-or-greater;
+      actions = λ s h p f action. renamed-act s h p f action;
+      renaming-is = λ s h p f. sym (rename-fits s p h f);
+      runs = run-renamed;
+    }
