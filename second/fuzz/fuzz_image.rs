@@ -2,7 +2,6 @@
 //! bytes back. A difference stops the fuzzer.
 
 use harness::layout::{LONGEST_IMAGE, STATE};
-use harness::proved;
 use second::flat;
 use std::process::abort;
 

@@ -1,7 +1,6 @@
 //! Any bytes as a run, judged by both implementations. A difference stops the fuzzer.
 
 use harness::layout::VERDICT;
-use harness::proved;
 use second::flat;
 use std::process::abort;
 

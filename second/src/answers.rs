@@ -84,15 +84,20 @@ pub struct Verdict {
 pub fn judge(run: &[u8]) -> Verdict {
     let mut out = [0; VERDICT];
     flat::judge(run, &mut out);
+    verdict(&out)
+}
+
+/// The verdict at the front of a buffer.
+pub fn verdict(out: &[u8]) -> Verdict {
     let mut state = [0; STATE];
-    state.copy_from_slice(&out[24..]);
+    state.copy_from_slice(&out[24..VERDICT]);
     Verdict {
-        accepted: number(&out, 0),
-        refusal: number(&out, 1),
-        at: number(&out, 2),
-        weak: number(&out, 3),
-        strong: number(&out, 4),
-        exposed: number(&out, 5),
+        accepted: number(out, 0),
+        refusal: number(out, 1),
+        at: number(out, 2),
+        weak: number(out, 3),
+        strong: number(out, 4),
+        exposed: number(out, 5),
         state,
     }
 }

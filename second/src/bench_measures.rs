@@ -7,10 +7,10 @@
 //! of a process can be compared.
 
 use crate::bench_inputs::{self as inputs, MakeRun, More, MOST_ACTIONS};
+use harness::answers;
 use harness::draw;
 use harness::layout::{Flat, LONGEST_IMAGE, RECORD, STATE, VERDICT};
 use harness::random::Random;
-use harness::{answers, proved};
 use second::flat;
 use std::process::exit;
 use std::time::Instant;

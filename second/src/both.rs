@@ -5,14 +5,17 @@
 use crate::failures::Failures;
 use harness::answers::{self, Verdict};
 use harness::layout::{Action, LONGEST_IMAGE, STATE, VERDICT};
-use harness::proved;
 use harness::random::Random;
 use second::flat;
+use second::printed::hex;
+use std::cell::Cell;
 use std::process::exit;
 
 const MARGIN: usize = 16;
 const ROOM: usize = 336;
 const LONGER: usize = ROOM - 2 * MARGIN - VERDICT;
+/// How many random bytes are drawn beforehand; a buffer gets some stretch of them.
+const NOISE: usize = 1 << 16;
 const MOST_DIFFERENCES: u64 = 20;
 
 type Named<'a> = (&'a str, &'a [u8]);
@@ -20,6 +23,7 @@ type Ask<'a> = &'a dyn Fn(&mut [u8]) -> u32;
 
 pub struct Both {
     pub random: Random,
+    noise: Vec<u8>,
     /// Whether a buffer may be too short for the answer, which then is not compared.
     pub short_buffers: bool,
     /// Questions put to both.
@@ -36,9 +40,12 @@ pub struct Both {
 }
 
 impl Both {
-    pub fn new(random: Random) -> Both {
+    pub fn new(mut random: Random) -> Both {
+        let mut noise = vec![0; NOISE];
+        random.fill(&mut noise);
         Both {
             random,
+            noise,
             short_buffers: true,
             compared: 0,
             actions: 0,
@@ -75,8 +82,14 @@ impl Both {
 
     fn ask(&mut self, name: &str, inputs: &[Named], exact: usize, ask: [Ask; 2]) -> u32 {
         let length = self.length(exact);
+        self.ask_into(name, inputs, length, ask)
+    }
+
+    /// Asks with a buffer of this length.
+    fn ask_into(&mut self, name: &str, inputs: &[Named], length: usize, ask: [Ask; 2]) -> u32 {
+        let start = self.random.below(NOISE - ROOM + 1);
         let mut before = [0; ROOM];
-        self.random.fill(&mut before);
+        before.copy_from_slice(&self.noise[start..start + ROOM]);
         let (mut left, mut right) = (before, before);
         let lent = MARGIN..MARGIN + length;
         let proved = ask[0](&mut left[lent.clone()]);
@@ -182,10 +195,16 @@ impl Both {
             Ok(image) => image.len(),
             Err(_) => LONGEST_IMAGE,
         };
-        self.ask(
+        let length = self.length(exact);
+        self.write_image_into(state, length)
+    }
+
+    /// The image, into a buffer of this length.
+    pub fn write_image_into(&mut self, state: &[u8], length: usize) -> u32 {
+        self.ask_into(
             "write_image",
             &[("state", state)],
-            exact,
+            length,
             [&|out| proved::write_image(state, out), &|out| {
                 flat::write_image(state, out)
             }],
@@ -227,15 +246,20 @@ impl Both {
 
     /// The verdict through both; answers the second implementation's.
     pub fn judge(&mut self, run: &[u8]) -> Verdict {
+        let told = Cell::new(None);
         self.ask(
             "judge",
             &[("run", run)],
             VERDICT,
             [&|out| proved::judge(run, out).into(), &|out| {
-                flat::judge(run, out).into()
+                let number = flat::judge(run, out);
+                if number == 0 {
+                    told.set(Some(answers::verdict(out)));
+                }
+                number.into()
             }],
         );
-        let verdict = answers::judge(run);
+        let verdict = told.get().unwrap_or_else(|| answers::judge(run));
         self.met[(verdict.refusal % 256) as usize] += 1;
         verdict
     }
@@ -245,9 +269,4 @@ fn print_inputs(inputs: &[Named]) {
     for (name, bytes) in inputs {
         println!("  {} ({} bytes) {}", name, bytes.len(), hex(bytes));
     }
-}
-
-/// Bytes in capitals, as images are printed.
-pub fn hex(bytes: &[u8]) -> String {
-    bytes.iter().map(|byte| format!("{:02X}", byte)).collect()
 }

@@ -5,22 +5,22 @@ use crate::both::Both;
 use harness::answers;
 use harness::course;
 use harness::draw;
+use harness::fixed;
 use harness::layout::*;
 
-/// Every question but `act`, on bytes that may or may not be a state.
+/// Every question but `act`, on bytes that may or may not be a state, and the reading of its bytes in
+/// the order of an image.
 pub fn every_question(both: &mut Both, state: &[u8], places: &[u8]) {
     both.weak(state);
     both.strong(state);
-    for kind in 0..9 {
+    for kind in (0..=9).chain([255]) {
         both.offer(state, kind);
     }
-    let unknown = both.random.pick(&[9, 10, 127, 128, 255]);
-    both.offer(state, unknown);
     both.representative(state);
     both.rename(state, places);
     both.write_image(state);
-    if let Ok(image) = answers::image(state) {
-        both.read_image(&image);
+    if let Ok(flat) = Flat::try_from(state) {
+        both.read_image(&as_image(&flat));
     }
 }
 
@@ -135,7 +135,7 @@ pub fn reached_state(both: &mut Both) -> Flat {
 
 /// Every question and some actions on bytes that may or may not be a state.
 fn anything(both: &mut Both, state: &[u8], like: &Flat) {
-    let places = draw::any_places(&mut both.random);
+    let places = draw::places(&mut both.random, like[R]);
     every_question(both, state, &places);
     for _ in 0..8 {
         let action = course::any_action(&mut both.random, like);
@@ -203,7 +203,8 @@ fn other_lengths(both: &mut Both, state: &Flat) {
     }
 }
 
-/// Images whole, cut at each length, with each byte changed, padded and damaged at random.
+/// Images whole, cut at each length, with each byte changed, padded and damaged at random; and other
+/// forms of the states that they are of.
 pub fn state_images(both: &mut Both, scale: usize) -> String {
     let (mut read, mut count) = (0, 0);
     for i in 0..40_000 * scale {
@@ -213,7 +214,10 @@ pub fn state_images(both: &mut Both, scale: usize) -> String {
         } else {
             reached_state(both)
         };
-        for bytes in image_forms(both, &state) {
+        if both.random.one_in(4) {
+            other_forms(both, &state);
+        }
+        for bytes in image_forms(both, &as_image(&state)) {
             both.read_image(&bytes);
             count += 1;
             if let Ok(back) = answers::read(&bytes) {
@@ -225,36 +229,56 @@ pub fn state_images(both: &mut Both, scale: usize) -> String {
     format!("images {} (read {})", count, read)
 }
 
-/// The image of a state and the bytes tried in its place.
-fn image_forms(both: &mut Both, state: &Flat) -> Vec<Vec<u8>> {
-    let image = match answers::image(state) {
-        Ok(image) => image,
-        Err(_) => return Vec::new(),
-    };
-    let mut forms = vec![image.clone()];
+/// A state as it is, with rubbish in unused room, and so that it breaks S1 or S3: its image into
+/// buffers with room to spare, exact, one short and empty, its renaming by some places, and its
+/// representative.
+fn other_forms(both: &mut Both, state: &Flat) {
+    let exact = as_image(state).len();
+    let untidy = draw::with_rubbish(&mut both.random, state);
+    let breaks_1 = fixed::with(&untidy, &[(X, 16)]);
+    let breaks_3 = fixed::with(state, &[(QUORUM_EPOCH, state[QUORUM_EPOCH] ^ 1)]);
+    for form in [*state, untidy, breaks_1, breaks_3] {
+        for length in [exact + 3, exact, exact - 1, 0] {
+            both.write_image_into(&form, length);
+        }
+        let places = draw::places(&mut both.random, state[R]);
+        both.rename(&form, &places);
+        both.representative(&form);
+    }
+}
+
+/// An image and the bytes tried in its place.
+pub fn image_forms(both: &mut Both, image: &[u8]) -> Vec<Vec<u8>> {
+    let mut forms = vec![image.to_vec()];
     for length in 0..image.len() {
         forms.push(image[..length].to_vec());
     }
     for at in 0..image.len() {
-        let mut flipped = image.clone();
+        let mut flipped = image.to_vec();
         flipped[at] ^= 1 << both.random.below(8);
         forms.push(flipped);
-        let mut near = image.clone();
+        let mut near = image.to_vec();
         near[at] = both.random.pick(&[0, 1, 255, near[at].wrapping_add(1)]);
         forms.push(near);
     }
     for _ in 0..40 {
-        forms.push(draw::damaged_image(&mut both.random, &image));
+        forms.push(draw::damaged_image(&mut both.random, image));
     }
     forms
 }
 
-/// Every renaming of every R on states, and places that are no renaming.
+/// Every renaming of every R on states, some with rubbish in unused room, some broken; and places
+/// that are no renaming.
 pub fn all_renamings(both: &mut Both, scale: usize) -> String {
     let (mut count, mut other) = (0, 0);
-    for _ in 0..40_000 * scale {
-        let state = draw::valid_state(&mut both.random);
-        for places in renamings(state[R]) {
+    for i in 0..40_000 * scale {
+        let valid = draw::valid_state(&mut both.random);
+        let state = match i % 8 {
+            0..=2 => draw::with_rubbish(&mut both.random, &valid),
+            3 => draw::nearly_valid_state(&mut both.random),
+            _ => valid,
+        };
+        for places in renamings(state[R].clamp(1, 5)) {
             both.rename(&state, &places);
             count += 1;
         }

@@ -2,26 +2,36 @@
 //!
 //! compare [--seed N] [--scale K | --soak] [--only CLASS]
 //! compare --runcheck PATH [--seed N] [--count N]
+//! compare --answers PATH [--seed N] [--count N]
 
+mod asking;
 mod both;
+mod chosen;
 mod classes;
 mod explore;
 mod failures;
+mod lines;
 mod programs;
 mod properties;
 
 use both::Both;
 use harness::random::Random;
+use std::io;
 use std::process::exit;
 use std::time::Instant;
 
 /// Scale 1 is for every change; the soak is for at least a million random runs.
 const SOAK_SCALE: usize = 7;
+/// How many runs go through `runcheck`, and questions through `answers`, if no count is given.
+const RUNS: u64 = 3_000;
+const QUESTIONS: u64 = 300_000;
 
 type Class = (&'static str, fn(&mut Both, usize) -> String);
 
-const CLASSES: [Class; 8] = [
+const CLASSES: [Class; 10] = [
     ("fresh", classes::fresh_states),
+    ("fixed", chosen::fixed_states),
+    ("one_byte", chosen::one_byte),
     ("states", classes::any_states),
     ("images", classes::state_images),
     ("renamings", classes::all_renamings),
@@ -34,20 +44,22 @@ const CLASSES: [Class; 8] = [
 struct Options {
     seed: u64,
     scale: usize,
-    count: u64,
+    count: Option<u64>,
     only: Option<String>,
     runcheck: Option<String>,
+    answers: Option<String>,
 }
 
 fn usage() -> ! {
     let names: Vec<&str> = CLASSES.iter().map(|class| class.0).collect();
     println!("compare [--seed N] [--scale K | --soak] [--only CLASS]");
     println!("compare --runcheck PATH [--seed N] [--count N]");
+    println!("compare --answers PATH [--seed N] [--count N]");
     println!("classes: {}", names.join(", "));
     exit(2)
 }
 
-fn number<T: std::str::FromStr>(text: Option<String>) -> T {
+fn parsed<T: std::str::FromStr>(text: Option<String>) -> T {
     match text.and_then(|text| text.parse().ok()) {
         Some(value) => value,
         None => usage(),
@@ -58,19 +70,21 @@ fn options() -> Options {
     let mut options = Options {
         seed: 1,
         scale: 1,
-        count: 3000,
+        count: None,
         only: None,
         runcheck: None,
+        answers: None,
     };
     let mut words = std::env::args().skip(1);
     while let Some(word) = words.next() {
         match word.as_str() {
-            "--seed" => options.seed = number(words.next()),
-            "--scale" => options.scale = number(words.next()),
+            "--seed" => options.seed = parsed(words.next()),
+            "--scale" => options.scale = parsed(words.next()),
             "--soak" => options.scale = SOAK_SCALE,
-            "--count" => options.count = number(words.next()),
-            "--only" => options.only = words.next(),
-            "--runcheck" => options.runcheck = words.next(),
+            "--count" => options.count = Some(parsed(words.next())),
+            "--only" => options.only = Some(parsed(words.next())),
+            "--runcheck" => options.runcheck = Some(parsed(words.next())),
+            "--answers" => options.answers = Some(parsed(words.next())),
             _ => usage(),
         }
     }
@@ -84,17 +98,28 @@ fn options() -> Options {
 fn main() {
     let options = options();
     println!("seed {}, scale {}", options.seed, options.scale);
-    let good = match &options.runcheck {
-        Some(path) => match programs::check_program(path, options.seed, options.count) {
-            Ok(good) => good,
-            Err(error) => {
-                println!("{}: {}", path, error);
-                false
-            }
-        },
-        None => compare_all(&options),
+    let seed = options.seed;
+    let good = if let Some(path) = &options.runcheck {
+        let count = options.count.unwrap_or(RUNS);
+        checked(path, programs::check_runcheck(path, seed, count))
+    } else if let Some(path) = &options.answers {
+        let count = options.count.unwrap_or(QUESTIONS);
+        checked(path, lines::check_answers(path, seed, count))
+    } else {
+        compare_all(&options)
     };
     exit(if good { 0 } else { 1 });
+}
+
+/// Whether a program printed what it must; an error is told, and is none of it.
+fn checked(path: &str, result: io::Result<bool>) -> bool {
+    match result {
+        Ok(good) => good,
+        Err(error) => {
+            println!("{}: {}", path, error);
+            false
+        }
+    }
 }
 
 /// Compares class by class, each with a seed of its own; true when all went well.

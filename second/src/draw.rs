@@ -400,11 +400,21 @@ pub fn damaged_image(random: &mut Random, image: &[u8]) -> Vec<u8> {
     out
 }
 
-/// Places that are seldom a renaming: wrong counts, repeats, values past R, moved places past R.
+/// A renaming of R replicas, or any places.
+pub fn places(random: &mut Random, r: u8) -> Vec<u8> {
+    if (1..=5).contains(&r) && random.one_in(2) {
+        renaming(random, r).to_vec()
+    } else {
+        any_places(random)
+    }
+}
+
+/// Places that are seldom a renaming: wrong counts, repeats, values past R, moved places past R, any
+/// five bytes.
 pub fn any_places(random: &mut Random) -> Vec<u8> {
     let mut places: Vec<u8> = (0..5).collect();
     random.shuffle(&mut places);
-    match random.below(4) {
+    match random.below(5) {
         0 => places.truncate(random.below(6)),
         1 => places.extend_from_slice(&[5, 6, 7][..1 + random.below(3)]),
         2 => {
@@ -415,6 +425,7 @@ pub fn any_places(random: &mut Random) -> Vec<u8> {
                 random.within(0, 6)
             };
         }
+        3 => random.fill(&mut places),
         _ => {}
     }
     places

@@ -165,7 +165,7 @@ fn standing_for(state: &Flat, cluster: &Cluster) -> Flat {
 }
 
 /// Kinds 0 to 9 and 255, each operand from 0 to just past both ranges.
-fn all_actions(c: [u8; 4]) -> Vec<Action> {
+pub fn all_actions(c: [u8; 4]) -> Vec<Action> {
     let top = c[0].max(c[3] + 1);
     let mut all = Vec::new();
     for kind in (0..=9).chain([255]) {

@@ -1,8 +1,8 @@
-//! What the programs around the two implementations share.
+//! What the programs around the two implementations share. It needs no proved library.
 
 pub mod answers;
 pub mod course;
 pub mod draw;
+pub mod fixed;
 pub mod layout;
-pub mod proved;
 pub mod random;

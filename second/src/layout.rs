@@ -6,6 +6,9 @@ pub const VERDICT: usize = 250;
 pub const LONGEST_IMAGE: usize = 227;
 pub const LONGEST_RUN: usize = 65_532;
 pub const RECORD: usize = 6;
+pub const MOST_REPLICAS: usize = 5;
+pub const MOST_REQUESTS: usize = 16;
+pub const MOST_RECORDS: usize = 16;
 
 pub type Flat = [u8; STATE];
 pub type Action = [u8; 4];
@@ -33,17 +36,17 @@ pub const END: usize = 4;
 const LOG: usize = 5;
 
 /// Where the request of an epoch stands: its leader, then its ISR.
-pub fn request(epoch: usize) -> usize {
+pub const fn request(epoch: usize) -> usize {
     REQUESTS + 2 * epoch
 }
 
 /// Where a replica's block starts.
-pub fn replica(i: usize) -> usize {
+pub const fn replica(i: usize) -> usize {
     REPLICAS + REPLICA_SIZE * i
 }
 
 /// Where a record of a replica's log stands: its id, then its epoch.
-pub fn record(i: usize, offset: usize) -> usize {
+pub const fn record(i: usize, offset: usize) -> usize {
     replica(i) + LOG + 2 * offset
 }
 
@@ -76,6 +79,18 @@ pub fn tidied(state: &Flat) -> Flat {
         }
     }
     tidy
+}
+
+/// The same state with something in each byte of its unused room: never 0, and no two bytes alike.
+pub fn untidied(state: &Flat) -> Flat {
+    let unused = unused(state);
+    let mut untidy = *state;
+    for i in 0..STATE {
+        if unused[i] {
+            untidy[i] = 255 - i as u8;
+        }
+    }
+    untidy
 }
 
 fn renamed_leader(leader: u8, places: &Places) -> u8 {
@@ -114,6 +129,28 @@ pub fn renamed(state: &Flat, places: &Places) -> Flat {
         out[to + ISR] = renamed_isr(tidy[from + ISR], places);
     }
     out
+}
+
+/// The bytes of a state in the order of an image, whether it meets the rules or not; of more requests,
+/// replicas or records than a state has room for, those that it has.
+pub fn as_image(state: &Flat) -> Vec<u8> {
+    let leader = |at: usize| state[at].wrapping_sub(1);
+    let mut image = vec![0x4B, 0x53];
+    image.extend_from_slice(&state[R..QUORUM_EPOCH]);
+    image.extend_from_slice(&[leader(QUORUM_LEADER), state[QUORUM_ISR]]);
+    for epoch in 0..usize::from(state[NEXT_EPOCH]).min(MOST_REQUESTS) {
+        let at = request(epoch);
+        image.extend_from_slice(&[leader(at), state[at + 1]]);
+    }
+    for i in 0..usize::from(state[R]).min(MOST_REPLICAS) {
+        let (at, end) = (replica(i), state[replica(i) + END]);
+        let fields = [state[at + HW], state[at + EPOCH], leader(at + LEADER)];
+        image.extend_from_slice(&fields);
+        image.extend_from_slice(&[state[at + ISR], end]);
+        let records = usize::from(end).min(MOST_RECORDS);
+        image.extend_from_slice(&state[record(i, 0)..record(i, records)]);
+    }
+    image
 }
 
 /// Whether a kind uses its operands a, b and e.

@@ -5,6 +5,8 @@ pub mod actions;
 pub mod flat;
 pub mod images;
 pub mod names;
+pub mod printed;
 pub mod questions;
+pub mod replies;
 pub mod run;
 pub mod state;

@@ -1,30 +1,29 @@
 //! The program `runcheck`: runs piped through it, and all that it prints compared with the second
 //! implementation's text.
 
-use crate::both::hex;
 use harness::course;
 use harness::draw;
 use harness::random::Random;
-use second::run::listing;
+use second::printed::{hex, listing};
 use std::io::{self, Write};
 use std::process::{Command, Stdio};
 use std::thread;
 
-const MOST_DIFFERENCES: u64 = 20;
+pub const MOST_DIFFERENCES: u64 = 20;
 
-/// All that the program prints of a run. The run is written from a thread of its own, so that
+/// All that the program prints of an input, which is written from a thread of its own, so that
 /// neither side waits for the other.
-fn printed(path: &str, run: &[u8]) -> io::Result<Vec<u8>> {
+pub fn printed(path: &str, input: &[u8]) -> io::Result<Vec<u8>> {
     let mut child = Command::new(path)
         .stdin(Stdio::piped())
         .stdout(Stdio::piped())
         .spawn()?;
-    let input = child.stdin.take();
-    let bytes = run.to_vec();
+    let stdin = child.stdin.take();
+    let bytes = input.to_vec();
     let writer = thread::spawn(move || {
-        if let Some(mut input) = input {
+        if let Some(mut stdin) = stdin {
             // A program may stop reading early; what it prints is compared all the same.
-            let _ = input.write_all(&bytes);
+            let _ = stdin.write_all(&bytes);
         }
     });
     let output = child.wait_with_output()?;
@@ -51,7 +50,7 @@ fn any_run(random: &mut Random) -> Vec<u8> {
 }
 
 /// Pipes so many runs through the program; answers whether all were printed alike.
-pub fn check_program(path: &str, seed: u64, count: u64) -> io::Result<bool> {
+pub fn check_runcheck(path: &str, seed: u64, count: u64) -> io::Result<bool> {
     let mut random = Random::named(seed, "runcheck");
     let (mut runs, mut bytes, mut differences) = (0, 0, 0);
     while runs < count && differences < MOST_DIFFERENCES {

@@ -64,24 +64,12 @@ fn meets_rules(state: &Flat) -> bool {
     answers::weak(state).is_ok()
 }
 
-/// The image has the length that the state calls for, and reads back as the state.
+/// The image is the state's bytes in their order, and reads back as the state.
 fn of_image(both: &mut Both, state: &Flat) {
-    let mut length = 10 + 2 * usize::from(state[NEXT_EPOCH]);
-    for i in 0..usize::from(state[R]) {
-        length += 5 + 2 * usize::from(state[replica(i) + END]);
-    }
-    let (counted, read) = match answers::image(state) {
-        Ok(image) => (
-            image.len() == length,
-            answers::read(&image) == Ok(tidied(state)),
-        ),
-        Err(_) => (false, false),
-    };
-    both.property(
-        "an image has the state's length",
-        counted,
-        &[("state", state)],
-    );
+    let image = as_image(state);
+    let same = answers::image(state).as_ref() == Ok(&image);
+    let read = answers::read(&image) == Ok(tidied(state));
+    both.property("an image is as written here", same, &[("state", state)]);
     both.property(
         "an image reads back as its state",
         read,

@@ -1,7 +1,6 @@
-//! The judge of a run, the renaming of a run, and what `runcheck` prints.
+//! The judge of a run, and the renaming of a run.
 
 use crate::actions::{act_on_good, used_operands};
-use crate::images::write_image;
 use crate::names::{is_renaming, Places};
 use crate::questions::{exposed, strong_failure, weak_failure};
 use crate::state::State;
@@ -150,28 +149,4 @@ fn rename_action(record: &mut [u8], replica_count: u8, places: &Places) {
     if uses_b && record[4] < replica_count {
         record[4] = places[record[4] as usize];
     }
-}
-
-/// What `runcheck` prints of a run: seven lines.
-pub fn listing(run: &[u8]) -> String {
-    let verdict = judge(run);
-    let mut text = String::new();
-    text.push_str(&format!("accepted {}\n", verdict.accepted));
-    text.push_str(&format!("refusal {}\n", verdict.refusal));
-    text.push_str(&format!("at {}\n", verdict.at));
-    text.push_str(&format!("weak {}\n", verdict.weak));
-    text.push_str(&format!("strong {}\n", verdict.strong));
-    text.push_str(&format!("exposed {}\n", verdict.exposed));
-    text.push_str("state ");
-    match write_image(&verdict.state) {
-        Ok(image) => {
-            for byte in image.as_slice() {
-                text.push_str(&format!("{:02X}", byte));
-            }
-        }
-        // The all-zero state has no image: no configuration was accepted.
-        Err(_) => text.push_str("none"),
-    }
-    text.push('\n');
-    text
 }

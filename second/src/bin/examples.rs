@@ -4,8 +4,9 @@
 use second::actions::act;
 use second::images::{read_image, write_image};
 use second::names::{rename, renamings, representative};
+use second::printed::listing;
 use second::questions::{offer, strong_isr, weak_isr};
-use second::run::{judge, listing, rename_run};
+use second::run::{judge, rename_run};
 use second::state::State;
 
 /// Counts the checks.
