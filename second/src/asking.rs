@@ -34,15 +34,18 @@ impl Questions {
         Questions { random, reached }
     }
 
-    /// So many questions in a row and the front of one more, which is not answered.
+    /// So many questions in a row, in half of the batches with the front of one more, which is not
+    /// answered.
     pub fn batch(&mut self, count: u64) -> Vec<u8> {
         let mut batch = Vec::new();
         for _ in 0..count {
             batch.extend(self.any());
         }
-        let next = self.any();
-        let tail = self.random.below(next.len());
-        batch.extend_from_slice(&next[..tail]);
+        if self.random.one_in(2) {
+            let next = self.any();
+            let tail = self.random.below(next.len());
+            batch.extend_from_slice(&next[..tail]);
+        }
         batch
     }
 
@@ -76,7 +79,7 @@ impl Questions {
             }
             left -= count;
         }
-        self.random.within(ASKS_READ + 1, 255)
+        course::edged(&mut self.random, ASKS_READ + 1, 255)
     }
 
     /// R, L, M and X, in half of them with one or two out of range.

@@ -8,6 +8,16 @@ use harness::layout::*;
 use second::printed::hex;
 use second::replies::{ASKS_OFFER, ASKS_RENAME, ASKS_REPRESENTATIVE, ASKS_STRONG, ASKS_WEAK};
 
+/// ISRs of the state with two leaders that are not full, so that renamings change them.
+const NARROW_ISRS: [(usize, u8); 6] = [
+    (QUORUM_ISR, 6),
+    (request(0) + 1, 5),
+    (request(1) + 1, 3),
+    (replica(0) + ISR, 3),
+    (replica(1) + ISR, 6),
+    (replica(2) + ISR, 1),
+];
+
 /// Places that are no renaming of three replicas: a name twice, a name that is not below R, a place
 /// past R that does not hold its own number, renamings of more replicas.
 const NONE_OF_THREE: &[Places] = &[
@@ -52,6 +62,7 @@ const REPRESENTATIVES: &[(Places, Changes)] = &[
     ([1, 0, 2, 3, 4], &[]),
     // The quorum's leader becomes 0, its ISR 0 and 1.
     ([2, 0, 1, 3, 4], &[(QUORUM_ISR, 6)]),
+    ([2, 0, 1, 3, 4], &NARROW_ISRS),
     // With replica 0 as leader the quorum's ISR decides, or that of a request, or the lower hw.
     ([0, 2, 1, 3, 4], &[LEADER_0[0], LEADER_0[1], LEADER_0[2], LEADER_0[3], (QUORUM_ISR, 5)]),
     ([0, 2, 1, 3, 4], &[LEADER_0[0], LEADER_0[1], LEADER_0[2], LEADER_0[3], (request(0) + 1, 5)]),
@@ -135,7 +146,8 @@ fn alone() -> Flat {
 }
 
 fn renamings_asked() -> Vec<Asked> {
-    let (three, five) = (fixed::two_leaders(), fixed::full_with_other_record());
+    let three = with(&fixed::two_leaders(), &NARROW_ISRS);
+    let five = with(&fixed::full_with_other_record(), &[(replica(4) + ISR, 9)]);
     let mut all = Vec::new();
     let mut accepted = |state: &Flat, places: &[Places]| {
         all.extend(places.iter().map(|places| renaming(state, places)));
