@@ -7,7 +7,7 @@ use mathlib.Core.List.{List, [], _∷_, _++_}
 use Rattle.logic.specs.Tests.{every}
 use Rattle.logic.specs.Refuse.{refuse, firstRefusal, byRefusal, by-other, listed, listed-refuse, listed-first, listed-within}
 use Rattle.parts.specs.declared.Leader.{Leader}
-use Rattle.parts.specs.declared.Leader.the-variants.{None, Broker}
+use Rattle.parts.specs.declared.Leader.the-variants.{None, Some}
 use Rattle.parts.specs.Refusal.{accepted, unknownKind, badOperand, noEpochLeft, notInIsr, alreadySo, noRequest, wrongLeader, epochNotHigher, notPresuming, noIdLeft, logFull, notTrueLeader, sameReplica, caughtUp, notCaughtUp, memberBehind, notFollowing, nothingToReplicate}
 use Rattle.cluster.specs.declared.State.{State}
 use Rattle.cluster.specs.declared.Action.{Action}
@@ -28,7 +28,7 @@ pub act-number : (s : State) (action : Action) → act s action .refusal ≡ ref
 unfolding act
 act-number s action = answer-number (refusal s action) s (effect (tidy s) action)
 
--- accepted exactly where nothing refuses it, and then the next state is the effect on the tidy state
+-- accepted where nothing refuses it, and then the next state is the effect on the tidy state
 pub act-accepted : (s : State) (action : Action) → refusal s action ≡ accepted → act s action ≡ actionAnswer accepted (effect (tidy s) action)
 unfolding act
 act-accepted s action h = sym (answer-zero (refusal s action) s (effect (tidy s) action) h)
@@ -72,7 +72,7 @@ actionNumbers =
     ∷ nothingToReplicate
     ∷ []
 
--- a number of a state that meets the rules, and a chain of such numbers
+-- 0 or one of those; a chain of such numbers gives such a number
 abbrev Listed : ℕ → Type 0
 Listed n = listed (accepted ∷ actionNumbers) n ≡ true
 
@@ -83,7 +83,7 @@ module _ (s : State) where
   leader-listed : (e : ℕ) (leader : Leader) → Listed (leaderRefusal s e leader)
   unfolding leaderRefusal listed
   leader-listed e None = refl
-  leader-listed e (Broker b) = refuse-listed _ _ _ refl refl
+  leader-listed e (Some b) = refuse-listed _ _ _ refl refl
 
   table-listed : (kind : Kind) (a b e : ℕ) → Listed (tableRefusal kind s a b e)
   unfolding tableRefusal controllerShrinkIsrRefusal controllerElectLeaderRefusal becomeLeaderRefusal becomeFollowerRefusal leaderWriteRefusal

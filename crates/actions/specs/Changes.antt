@@ -8,10 +8,10 @@ use native.Mathlib.Omega.{arith}
 use lib.IntN.{ℤ, pos}
 use lib.ListN.{set}
 use Rattle.parts.specs.declared.Leader.{Leader}
-use Rattle.parts.specs.declared.Leader.the-variants.{None, Broker}
+use Rattle.parts.specs.declared.Leader.the-variants.{None, Some}
 use Rattle.parts.specs.Isr.{member}
 use Rattle.parts.specs.EpochLaws.{pos-injective, pos-negsuc}
-use Rattle.parts.specs.LeaderLaws.{none-broker}
+use Rattle.parts.specs.LeaderLaws.{none-some}
 use Rattle.replica.specs.declared.Record.{Record}
 use Rattle.replica.specs.declared.Replica.{Replica}
 use Rattle.replica.specs.Replica.{zeroRecord, tidyReplica}
@@ -41,14 +41,14 @@ module _ (s : State) (r : Rules s) (a : ℕ) where
       }
 
   -- another ISR with a in it, where a leads itself
-  pub isr-fits : (epoch : ℤ) (leader : Leader) (old isr : ℕ) → leader ≡ Broker a → isr < 2 ^ replicaCount (s .limits) → member isr a ≡ true
+  pub isr-fits : (epoch : ℤ) (leader : Leader) (old isr : ℕ) → leader ≡ Some a → isr < 2 ^ replicaCount (s .limits) → member isr a ≡ true
       → RequestFits s a epoch leader old → RequestFits s a epoch leader isr
   isr-fits epoch leader old isr led within own f =
       record {
         named = record { below = f .named .below; within = within };
         matches =
             record {
-              none = λ q. absurd (none-broker a (sym (f .matches .none q .0) ∙ led));
+              none = λ q. absurd (none-some a (sym (f .matches .none q .0) ∙ led));
               used = f .matches .used;
               low = f .matches .low;
             };
@@ -86,5 +86,5 @@ module _ (s : State) (r : Rules s) (a : ℕ) where
         → Fits s a nextId p → Fits s a nextId (becomeFollowerAndTruncateTo p epoch leader isr offset)
     unfolding becomeFollowerAndTruncateTo truncateUnder truncateTo withRequest withHw withEnd tidyReplica
     follower-fits p epoch None isr offset q f = record { request = q; log = f .log; hw = omega (arith, f .hw) }
-    follower-fits p epoch (Broker b) isr offset q f =
+    follower-fits p epoch (Some b) isr offset q f =
         record { request = q; log = end-fits p (min offset (p .end)) (omega arith) (f .log); hw = omega (arith, f .hw) }

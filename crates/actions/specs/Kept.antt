@@ -25,7 +25,7 @@ pub record Kept (s t : State) : Type 0 where
   pub tidy : tidy t ≡ t
   pub limits : t .limits ≡ s .limits
 
--- the state itself keeps all of it, and so does what keeps it after that
+-- a state keeps all of it of itself, and what each of two steps keeps both together keep
 pub kept-same : (s : State) → rules s ≡ true → tidy s ≡ s → Kept s s
 kept-same s h t = record { rules = h; tidy = t; limits = refl }
 
@@ -49,7 +49,7 @@ act-kept s action ok =
     let k = effect-kept (tidy s) action (rules-tidy s ∙ a .met) (tidy-twice s) (a .unrefused) in
     rw (a .next) (record { rules = k .rules; tidy = k .tidy; limits = k .limits ∙ tidy-same s .limits })
 
--- so a caller that steps on holds rules and tidiness of every state that it reaches, whatever each step answers
+-- so every state that steps reach meets the rules and is tidy, whatever each step answers
 pub step-kept : (s : State) (action : Action) → rules s ≡ true → tidy s ≡ s → Kept s (step s action .state)
 unfolding step answerBy byRefusal
 step-kept s action h t = go (actionRefusal s action) refl
@@ -58,7 +58,7 @@ step-kept s action h t = go (actionRefusal s action) refl
     go zero e = effect-kept s action h t e
     go (suc n) e = kept-same s h t
 
--- where the state meets the rules and is tidy, an action need look at neither
+-- where the state meets the rules and is tidy, a step, which tests neither, answers what the action does
 pub step-is-act : (s : State) (action : Action) → rules s ≡ true → tidy s ≡ s → step s action ≡ act s action
 unfolding step
 step-is-act s action h t = ap (λ (u : State). answerBy (actionRefusal u action) s (effect u action)) (sym t) ∙ act-met s action h

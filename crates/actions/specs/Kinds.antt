@@ -1,5 +1,18 @@
 -- Each of the nine kinds of action, where it is accepted, leads from a sound state to a sound state of the same configuration.
 -- Assumes nothing.
+--
+--   controller-shrink-sound     kind 0
+--   elect-sound                 kind 1
+--   become-leader-sound         kind 2
+--   become-follower-at-sound    a replica takes a request that was sent, as follower, and cuts its log to any offset
+--   become-follower-sound       kind 3: the offset is its high watermark
+--   write-sound                 kind 4
+--   update-sound                the true leader's ISR put anew, in it and in the quorum, which kinds 5 and 6 share
+--   leader-shrink-sound         kind 5
+--   leader-expand-sound         kind 6
+--   advance-sound               kind 7
+--   replicate-sound             kind 8
+--   kind-sound                  the nine together: the kind's effect, where its operands fit and the table does not refuse it
 use Prim.Native.Nat.{ℕ, _+_, _^_, _<_}
 use mathlib.Core.Path.{_≡_, refl, sym, _∙_}
 use mathlib.Core.Bool.{Bool, true, false}
@@ -7,12 +20,12 @@ use native.Mathlib.Omega.{arith}
 use lib.IntN.{pos}
 use Rattle.logic.specs.Tests.{true-false}
 use Rattle.parts.specs.declared.Leader.{Leader}
-use Rattle.parts.specs.declared.Leader.the-variants.{None, Broker}
+use Rattle.parts.specs.declared.Leader.the-variants.{None, Some}
 use Rattle.parts.specs.Refusal.{accepted}
 use Rattle.parts.specs.Isr.{member, without, including, isAlone}
 use Rattle.parts.specs.IsrLaws.{without-below, including-below, stays-without, stays-including}
 use Rattle.parts.specs.Leader.{names}
-use Rattle.parts.specs.LeaderLaws.{none-broker, broker-injective, names-iff}
+use Rattle.parts.specs.LeaderLaws.{none-some, some-injective, names-iff}
 use Rattle.replica.specs.LogLaws.{InUse}
 use Rattle.replica.specs.Change.{withHw, withIsr, withRequest, append}
 use Rattle.cluster.specs.declared.Limits.{Limits}
@@ -42,7 +55,7 @@ module _ (c : Limits) (s : State) (d : Sound c s) where
   -- an ISR within the replicas, with no leader
   no-leader-sound : (isr : ℕ) → isr < 2 ^ R → EpochLeft s → Sound c (controllerUpdateIsr s None isr)
   no-leader-sound isr within left =
-      request-sound c s d None isr left (record { below = λ b q. absurd (none-broker b q); within = within }) (λ b q. absurd (none-broker b q))
+      request-sound c s d None isr left (record { below = λ b q. absurd (none-some b q); within = within }) (λ b q. absurd (none-some b q))
 
   without-within : (a : ℕ) → without (s .quorum .isr) a < 2 ^ R
   without-within a = without-below R (s .quorum .isr) a (r .s1 .ranges .replicas) (r .s2 .quorum .within)
@@ -67,19 +80,19 @@ module _ (c : Limits) (s : State) (d : Sound c s) where
   unfolding controllerElectLeader
   elect-sound a l h =
       let f = elect-accepted s a (r .s1) .0 h in
-      request-sound c s d (Broker a) (s .quorum .isr) (f .2)
-      (record { below = λ b q. rw (broker-injective a b q) at l; within = r .s2 .quorum .within })
-      (λ b q. rw (broker-injective a b q) at (f .0))
+      request-sound c s d (Some a) (s .quorum .isr) (f .2)
+      (record { below = λ b q. rw (some-injective a b q) at l; within = r .s2 .quorum .within })
+      (λ b q. rw (some-injective a b q) at (f .0))
 
   -- ---- kinds 2 and 3
   lead-by-sound : (e : ℕ) → e < nextLeaderEpoch s → (leader : Leader) → requestAt s e .leader ≡ leader → leaderRefusal s e leader ≡ accepted
       → Sound c (leadBy s e leader)
   unfolding leaderRefusal leadBy withRequest
   lead-by-sound e l None q h = absurd (omega arith)
-  lead-by-sound e l (Broker b) q h =
+  lead-by-sound e l (Some b) q h =
       let low = r .s2 .requests e l .below b q in
       let f = replica-fits c s d b low (nextRecordId s) in
-      put-only-sound c s d b low (withRequest (replicaAt s b) (pos e) (Broker b) (requestAt s e .isr))
+      put-only-sound c s d b low (withRequest (replicaAt s b) (pos e) (Some b) (requestAt s e .isr))
       (record { request = rw q at (request-fits s r b e l); log = f .log; hw = f .hw })
 
   become-leader-sound : (e : ℕ) → becomeLeaderRefusal s e ≡ accepted → Sound c (becomeLeader s e)
@@ -102,7 +115,7 @@ module _ (c : Limits) (s : State) (d : Sound c s) where
 
   -- ---- kind 4
   -- the record that a presuming replica writes is in use
-  next-in-use : (a : ℕ) → a < R → replicaAt s a .leader ≡ Broker a → InUse (nextRecordId s + 1) (nextLeaderEpoch s) (nextRecord s a)
+  next-in-use : (a : ℕ) → a < R → replicaAt s a .leader ≡ Some a → InUse (nextRecordId s + 1) (nextLeaderEpoch s) (nextRecord s a)
   next-in-use a l led =
       let m = r .s5 a l .request in
       record {
@@ -110,7 +123,7 @@ module _ (c : Limits) (s : State) (d : Sound c s) where
         epoch = λ e q. m .used e q .0;
         signed = λ k q.
             let none : k ≡ 0 = m .low k q in
-            none-broker a (sym (m .none (rw none at q) .0) ∙ led);
+            none-some a (sym (m .none (rw none at q) .0) ∙ led);
       }
 
   write-sound : (a : ℕ) → a < R → leaderWriteRefusal s a ≡ accepted → Sound c (leaderWrite s a)
@@ -141,9 +154,9 @@ module _ (c : Limits) (s : State) (d : Sound c s) where
         hw = f .hw;
       }))
       isr
-      (λ none. none-broker a (sym (r .s3 .start none .0) ∙ t .quorum))
+      (λ none. none-some a (sym (r .s3 .start none .0) ∙ t .quorum))
       within
-      (λ b q. rw (broker-injective a b (sym (t .quorum) ∙ q)) at own)
+      (λ b q. rw (some-injective a b (sym (t .quorum) ∙ q)) at own)
 
   -- a true leader is in its own ISR, which is within the replicas
   leader-shrink-sound : (a b : ℕ) → a < R → leaderShrinkIsrRefusal s a b ≡ accepted → Sound c (leaderShrinkIsr s a b)

@@ -7,7 +7,7 @@ use native.Mathlib.Omega.{arith}
 use lib.IntN.{ℤ}
 use lib.ListN.{getD}
 use Rattle.parts.specs.declared.Leader.{Leader}
-use Rattle.parts.specs.declared.Leader.the-variants.{Broker}
+use Rattle.parts.specs.declared.Leader.the-variants.{Some}
 use Rattle.parts.specs.Isr.{member}
 use Rattle.replica.specs.declared.Record.{Record}
 use Rattle.replica.specs.declared.Replica.{Replica}
@@ -18,14 +18,14 @@ use Rattle.cluster.specs.State.{replicaCount, logSize, maxRecords, nextLeaderEp
 use Rattle.cluster.specs.Predicates.{Rules, Named, MatchesRequest, MeetsS5}
 use Rattle.logic.specs.Lists.{each-set, put-tidy}
 use Rattle.actions.specs.Tidy.{TidyLog, tidy-replica-iff}
-use Rattle.actions.specs.Records.{From, stays, s6-kept, s7-kept}
+use Rattle.actions.specs.Records.{From, from-itself, s6-kept, s7-kept}
 use Rattle.actions.specs.Sound.{Sound}
 
 -- an epoch, a leader and an ISR that replica a of s may have
 pub record RequestFits (s : State) (a : ℕ) (epoch : ℤ) (leader : Leader) (isr : ℕ) : Type 0 where
   pub named : Named (replicaCount (s .limits)) leader isr
   pub matches : MatchesRequest (nextLeaderEpoch s) (s .requests) epoch leader isr
-  pub own : leader ≡ Broker a → member isr a ≡ true
+  pub own : leader ≡ Some a → member isr a ≡ true
 
 -- a log that it may have, with this next id
 pub record LogFits (s : State) (a nextId end : ℕ) (log : List Record) : Type 0 where
@@ -40,7 +40,7 @@ pub record Fits (s : State) (a nextId : ℕ) (p : Replica) : Type 0 where
   pub hw : p .hw ≤ p .end
 
 module _ (c : Limits) (s : State) (d : Sound c s) (a : ℕ) (l : a < replicaCount (s .limits)) where
-  -- a is one, as it is
+  -- a may stay as it is
   pub replica-fits : (nextId : ℕ) → Fits s a nextId (replicaAt s a)
   replica-fits nextId =
       let five = d .rules .s5 a l in
@@ -50,17 +50,17 @@ module _ (c : Limits) (s : State) (d : Sound c s) (a : ℕ) (l : a < replicaCoun
             record {
               room = d .rules .s2 .ends a l;
               tidy = tidy-replica-iff (replicaAt s a) .0 (d .tidy .replicas .used a (omega (arith, d .rules .s1 .ranges .replicas)) l);
-              records = stays s a nextId (nextLeaderEpoch s) a l;
+              records = from-itself s a nextId (nextLeaderEpoch s) a l;
             };
         hw = five .hw;
       }
 
   module _ (p : Replica) where
     -- what holds of p, and of each other replica, holds of each
-    each : (P : Replica → ℕ → Type 0) → P p a → ((i : ℕ) → i < replicaCount (s .limits) → P (replicaAt s i) i)
+    each-replica : (P : Replica → ℕ → Type 0) → P p a → ((i : ℕ) → i < replicaCount (s .limits) → P (replicaAt s i) i)
         → (i : ℕ) → i < replicaCount (s .limits) → P (replicaAt (withReplica s a p) i) i
     unfolding withReplica
-    each P own others i m =
+    each-replica P own others i m =
         each-set P (s .replicas) a p noReplica own i (omega (arith, d .tidy .replicas .room, d .rules .s1 .ranges .replicas)) (λ q. others i m)
 
     pub put-sound : (nextId : ℕ) → nextRecordId s ≤ nextId → nextId ≤ maxRecords (s .limits) → Fits s a nextId p
@@ -76,13 +76,13 @@ module _ (c : Limits) (s : State) (d : Sound c s) (a : ℕ) (l : a < replicaCoun
                     record {
                       quorum = r .s2 .quorum;
                       requests = r .s2 .requests;
-                      replicas = each (λ q i. Named (replicaCount (s .limits)) (q .leader) (q .isr)) (f .request .named) (r .s2 .replicas);
-                      ends = each (λ q i. q .end ≤ logSize (s .limits)) (f .log .room) (r .s2 .ends);
+                      replicas = each-replica (λ q i. Named (replicaCount (s .limits)) (q .leader) (q .isr)) (f .request .named) (r .s2 .replicas);
+                      ends = each-replica (λ q i. q .end ≤ logSize (s .limits)) (f .log .room) (r .s2 .ends);
                     };
                 s3 = record { epoch = r .s3 .epoch; start = r .s3 .start; later = r .s3 .later };
                 s4 = record { quorum = r .s4 .quorum; requests = r .s4 .requests };
                 s5 =
-                    each (λ q i. MeetsS5 (nextLeaderEpoch s) (s .requests) q i)
+                    each-replica (λ q i. MeetsS5 (nextLeaderEpoch s) (s .requests) q i)
                     (record { request = f .request .matches; own = f .request .own; hw = f .hw })
                     (r .s5);
                 s6 = s6-kept s next a (r .s6) from low (omega arith);
@@ -106,8 +106,8 @@ module _ (c : Limits) (s : State) (d : Sound c s) (a : ℕ) (l : a < replicaCoun
         from : (i : ℕ) → i < replicaCount (s .limits) → (x : ℕ) → x < replicaAt next i .end
             → From s a nextId (nextLeaderEpoch s) (recordAt (replicaAt next i) x) x
         from =
-            each (λ q i. (x : ℕ) → x < q .end → From s a nextId (nextLeaderEpoch s) (recordAt q x) x)
-            (f .log .records) (stays s a nextId (nextLeaderEpoch s))
+            each-replica (λ q i. (x : ℕ) → x < q .end → From s a nextId (nextLeaderEpoch s) (recordAt q x) x)
+            (f .log .records) (from-itself s a nextId (nextLeaderEpoch s))
 
     -- with the next id as it was
     pub put-only-sound : Fits s a (nextRecordId s) p → Sound c (withReplica s a p)

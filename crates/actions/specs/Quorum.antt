@@ -3,7 +3,7 @@ use Prim.Native.Nat.{ℕ, _^_, _<_}
 use mathlib.Core.Path.{_≡_}
 use mathlib.Core.Bool.{true}
 use native.Mathlib.Omega.{arith}
-use Rattle.parts.specs.declared.Leader.the-variants.{Broker}
+use Rattle.parts.specs.declared.Leader.the-variants.{Some}
 use Rattle.parts.specs.Isr.{member}
 use Rattle.cluster.specs.declared.Limits.{Limits}
 use Rattle.cluster.specs.declared.State.{State}
@@ -13,7 +13,7 @@ use Rattle.actions.specs.Records.{unwritten, s6-kept, s7-kept}
 use Rattle.actions.specs.Sound.{Sound}
 
 pub quorum-sound : (c : Limits) (s : State) → Sound c s → (isr : ℕ) → (nextLeaderEpoch s ≡ 0 → ⊥) → isr < 2 ^ replicaCount (s .limits)
-    → ((b : ℕ) → s .quorum .leader ≡ Broker b → member isr b ≡ true) → Sound c (withQuorumIsr s isr)
+    → ((b : ℕ) → s .quorum .leader ≡ Some b → member isr b ≡ true) → Sound c (withQuorumIsr s isr)
 unfolding withQuorumIsr
 quorum-sound c s d isr later within led =
     record {

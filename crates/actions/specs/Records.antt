@@ -18,24 +18,24 @@ pub data From (s : State) (a nextId nextEpoch : ℕ) (r : Record) (x : ℕ) : Ty
   written : InUse nextId nextEpoch (nextRecord s a) → r ≡ nextRecord s a → x ≡ replicaAt s a .end → From s a nextId nextEpoch r x
 
 -- a record of s comes from itself, whoever writes
-pub stays : (s : State) (a nextId nextEpoch i : ℕ) → i < replicaCount (s .limits) → (x : ℕ) → x < replicaAt s i .end
+pub from-itself : (s : State) (a nextId nextEpoch i : ℕ) → i < replicaCount (s .limits) → (x : ℕ) → x < replicaAt s i .end
     → From s a nextId nextEpoch (recordAt (replicaAt s i) x) x
-stays s a nextId nextEpoch i l x h = old i (record { replica = l; offset = h }) refl
+from-itself s a nextId nextEpoch i l x h = old i (record { replica = l; offset = h }) refl
 
 -- where none is written, 0 may stand for the writer
 pub unwritten : (s : State) (nextId nextEpoch i : ℕ) → i < replicaCount (s .limits) → (x : ℕ) → x < replicaAt s i .end
     → From s 0 nextId nextEpoch (recordAt (replicaAt s i) x) x
-unwritten s nextId nextEpoch = stays s 0 nextId nextEpoch
+unwritten s nextId nextEpoch = from-itself s 0 nextId nextEpoch
 
 module _ (s t : State) (a : ℕ) (six : S6 s) where
-  abbrev Comes : Record → ℕ → Type 0
-  Comes r x = From s a (nextRecordId t) (nextLeaderEpoch t) r x
+  abbrev ComesFrom : Record → ℕ → Type 0
+  ComesFrom r x = From s a (nextRecordId t) (nextLeaderEpoch t) r x
 
   -- no record of s has the id of the one that is written
   not-written : (i x : ℕ) → Has s i x → recordAt (replicaAt s i) x .id ≡ nextRecordId s → ⊥
   not-written i x h e = omega (arith, six i x h .id)
 
-  agree : S7 s → (r q : Record) (x y : ℕ) → Comes r x → Comes q y → r .id ≡ q .id → Agree r x q y
+  agree : S7 s → (r q : Record) (x y : ℕ) → ComesFrom r x → ComesFrom q y → r .id ≡ q .id → Agree r x q y
   agree seven r q x y (old i h e) (old j k f) g = rw (e, f) (seven i x j y h k (rw (e, f) at g))
   agree seven r q x y (old i h e) (written u f k) g =
       absurd (not-written i x h (ap (λ (v : Record). v .id) (sym e) ∙ g ∙ ap (λ (v : Record). v .id) f))
@@ -43,7 +43,7 @@ module _ (s t : State) (a : ℕ) (six : S6 s) where
       absurd (not-written j y k (ap (λ (v : Record). v .id) (sym f) ∙ sym g ∙ ap (λ (v : Record). v .id) e))
   agree seven r q x y (written u e h) (written v f k) g = record { offset = h ∙ sym k; epoch = ap (λ (w : Record). w .epoch) (e ∙ sym f) }
 
-  module _ (from : (i : ℕ) → i < replicaCount (t .limits) → (x : ℕ) → x < replicaAt t i .end → Comes (recordAt (replicaAt t i) x) x) where
+  module _ (from : (i : ℕ) → i < replicaCount (t .limits) → (x : ℕ) → x < replicaAt t i .end → ComesFrom (recordAt (replicaAt t i) x) x) where
     pub s7-kept : S7 s → S7 t
     s7-kept seven i x j y h k =
         agree seven (recordAt (replicaAt t i) x) (recordAt (replicaAt t j) y) x y
@@ -55,6 +55,6 @@ module _ (s t : State) (a : ℕ) (six : S6 s) where
         more : (r : Record) → InUse (nextRecordId s) (nextLeaderEpoch s) r → InUse (nextRecordId t) (nextLeaderEpoch t) r
         more r u = record { id = omega (arith, u .id); epoch = λ e q. omega (arith, u .epoch e q); signed = u .signed }
 
-        go : (r : Record) → Comes r x → InUse (nextRecordId t) (nextLeaderEpoch t) r
+        go : (r : Record) → ComesFrom r x → InUse (nextRecordId t) (nextLeaderEpoch t) r
         go r (old j k e) = rw e (more (recordAt (replicaAt s j) x) (six j x k))
         go r (written u e k) = rw e u

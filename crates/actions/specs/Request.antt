@@ -9,7 +9,7 @@ use lib.ListN.{length}
 use lib.Seq.{getD-set-same, getD-set-other}
 use Rattle.logic.specs.Lists.{each-set, more-tidy}
 use Rattle.parts.specs.declared.Leader.{Leader}
-use Rattle.parts.specs.declared.Leader.the-variants.{Broker}
+use Rattle.parts.specs.declared.Leader.the-variants.{Some}
 use Rattle.parts.specs.Isr.{member}
 use Rattle.parts.specs.Epoch.{lastEpoch}
 use Rattle.replica.specs.declared.Replica.{Replica}
@@ -48,10 +48,10 @@ module _ (c : Limits) (s : State) (d : Sound c s) (leader : Leader) (isr : ℕ) 
   request-new = getD-set-same (s .requests) (nextLeaderEpoch s) request zeroRequest room
 
   -- what holds of the new request, and of each sent before, holds of each
-  each : (P : Request → Type 0) → P request → ((e : ℕ) → e < nextLeaderEpoch s → P (requestAt s e))
+  each-request : (P : Request → Type 0) → P request → ((e : ℕ) → e < nextLeaderEpoch s → P (requestAt s e))
       → (e : ℕ) → e < nextLeaderEpoch s + 1 → P (requestAt next e)
   unfolding controllerUpdateIsr
-  each P new olds e l =
+  each-request P new olds e l =
       each-set (λ q i. P q) (s .requests) (nextLeaderEpoch s) request zeroRequest new e (omega (arith, room)) (λ q. olds e (omega arith))
 
   -- a replica meets S5 with one request more
@@ -70,7 +70,7 @@ module _ (c : Limits) (s : State) (d : Sound c s) (leader : Leader) (isr : ℕ) 
         hw = m .hw;
       }
 
-  pub request-sound : Named (replicaCount (s .limits)) leader isr → ((b : ℕ) → leader ≡ Broker b → member isr b ≡ true) → Sound c next
+  pub request-sound : Named (replicaCount (s .limits)) leader isr → ((b : ℕ) → leader ≡ Some b → member isr b ≡ true) → Sound c next
   unfolding controllerUpdateIsr
   request-sound named led =
       record {
@@ -81,7 +81,7 @@ module _ (c : Limits) (s : State) (d : Sound c s) (leader : Leader) (isr : ℕ) 
               s2 =
                   record {
                     quorum = named;
-                    requests = each (λ q. Named (replicaCount (s .limits)) (q .leader) (q .isr)) named (r .s2 .requests);
+                    requests = each-request (λ q. Named (replicaCount (s .limits)) (q .leader) (q .isr)) named (r .s2 .requests);
                     replicas = r .s2 .replicas;
                     ends = r .s2 .ends;
                   };
@@ -96,7 +96,7 @@ module _ (c : Limits) (s : State) (d : Sound c s) (leader : Leader) (isr : ℕ) 
               s4 =
                   record {
                     quorum = led;
-                    requests = each (λ q. (b : ℕ) → q .leader ≡ Broker b → member (q .isr) b ≡ true) led (r .s4 .requests);
+                    requests = each-request (λ q. (b : ℕ) → q .leader ≡ Some b → member (q .isr) b ≡ true) led (r .s4 .requests);
                   };
               s5 = λ i l. meets-later _ i (r .s5 i l);
               s6 = s6-kept s next 0 (r .s6) (unwritten s (nextRecordId s) (nextLeaderEpoch s + 1)) (omega arith) (omega arith);

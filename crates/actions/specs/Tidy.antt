@@ -1,4 +1,4 @@
--- What a tidy state is, place by place: each of its arrays has zeros from where it is in use on. Assumes nothing.
+-- What a tidy state is, place by place: each of its arrays has zeros behind the places in use. Assumes nothing.
 use Prim.Native.Nat.{ℕ}
 use mathlib.Core.Path.{_≡_, refl, ap}
 use mathlib.Core.List.{List}

@@ -94,7 +94,7 @@ fn places_of(question: &[u8]) -> [u8; 5]
     ]
 }
 
-// What an action answers on a state. What writes a line answers whether all was written.
+// What an action answers on a state. This and each function below that writes a line answers whether all was written.
 fn act(s: State, action: Action) -> bool {
     let answer = s.act(action);
     print::state(b"act", answer.refusal, answer.state)
@@ -122,7 +122,7 @@ fn read(question: &[u8]) -> bool
     print::outcome(b"read", images::read_image(&question[2..end]))
 }
 
-// Answers a question.
+// Answers a question by its first byte, as the list above has it.
 fn answer(question: &[u8]) -> bool
     requires { ⌜ 257 ≤ length (now question) ⌝ }
 {

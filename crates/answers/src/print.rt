@@ -1,4 +1,4 @@
-// The answers as lines of text. What writes answers whether all was written.
+// The answers as lines of text. Each function that writes a line answers whether all was written.
 ghost use mathlib.Core.Path.{_≡_};
 ghost use Prim.Native.Nat.{_≤_};
 ghost use lib.ListN.{length};
@@ -47,7 +47,7 @@ fn put_number(line: &mut [u8], at: usize, number: u64) -> usize
     put(&mut line[..], first, &digits[..count])
 }
 
-// Each of the numbers so.
+// Each of the numbers in decimal, with a space before it.
 fn put_numbers(line: &mut [u8], at: usize, numbers: &[u64]) -> usize
     requires { ⌜ at ≤ length (now line) ⌝ }
     ensures { λ r. ⌜ Counts r (now (line .exit)) ⌝ }
@@ -90,19 +90,19 @@ fn line(name: &[u8], numbers: &[u64], bytes: &[u8]) -> bool {
     io::write_all(STDOUT_FILENO, &text[..end])
 }
 
-// A number and the flat form of a state.
+// A line with a number and the flat form of a state.
 pub(crate) fn state(name: &[u8], number: u8, s: State) -> bool {
     let mut bytes = [0u8; flat::WIDTH];
     put_state(&mut bytes, 0, s);
     line(name, &[number as u64], &bytes)
 }
 
-// The number and the state of an answer.
+// The same, of an answer that holds both.
 pub(crate) fn outcome(name: &[u8], answer: Outcome) -> bool {
     state(name, answer.refusal, answer.state)
 }
 
-// The first rule that a state breaks.
+// The number of the first state rule that a state breaks, or 0.
 pub(crate) fn rule(number: u8) -> bool {
     line(b"rule", &[number as u64], b"")
 }
@@ -136,7 +136,7 @@ pub(crate) fn image(answer: Written, buffer: &[u8]) -> bool {
     line(b"write", &numbers, buffer)
 }
 
-// No such question.
+// The answer to a question whose first byte is above 9.
 pub(crate) fn unknown() -> bool {
     line(b"unknown", &[], b"")
 }

@@ -1,4 +1,23 @@
--- What an accepted action says of its operands, and of the state each way. Assumes nothing.
+-- What an accepted action says of its operands, and kind by kind what the state must be for it to be accepted. Assumes nothing.
+--
+--   Operands c kind a b                     the replicas that the kind uses are below R
+--   operand-iff                             a number is below an operand's bound: below its own where it is used, else 0
+--   operands-of                             operands that fit have their replicas below R
+--   action-accepted                         an accepted action has operands that fit, and the table refuses nothing
+--   presumes-itself                         a replica that presumes leadership has itself as leader
+--   TrueLeader s a, true-leader             a presumes, the quorum names it, and its epoch is the quorum's; the test says so
+--   EpochLeft s                             the next epoch is below X+1
+--   request-sent                            a request that is not missing has an epoch below the next one
+--   controller-shrink-accepted              kind 0 is accepted exactly where a is in the quorum's ISR and an epoch is left
+--   elect-accepted                          kind 1: a is in the quorum's ISR and does not lead, and an epoch is left
+--   become-leader-accepted                  kind 2: request e was sent, and leaderRefusal is 0 of the leader that it names
+--   become-follower-accepted                kind 3: request e was sent, does not name a, and e is above a's epoch
+--   Writes s a, write-accepted              kind 4: a presumes, an id is left, and a's log has room
+--   Shrinks s a b, leader-shrink-accepted   kind 5: a is the true leader, b another, in a's ISR and not caught up to a's end
+--   Expands s a b, leader-expand-accepted   kind 6: a is the true leader, b not in a's ISR and caught up to a's hw
+--   advance-accepted                        kind 7: a presumes, and each member of a's ISR has a as leader and has offset hw
+--   own-hw                                  where kind 7 is accepted, a has offset hw itself
+--   Replicates s a b, replicate-accepted    kind 8: b presumes, a's leader is b, and a's end is below b's
 use Prim.Native.Nat.{ℕ, _+_, _<_}
 use mathlib.Core.Path.{_≡_, refl, sym, ap}
 use mathlib.Core.Bool.{Bool, true, false, not}
@@ -7,7 +26,7 @@ use native.Mathlib.Omega.{arith}
 use borrow.Author.Tests.{ltb-true, lt-ltb, lt-leb, leb-false, eqb-false, ne-eqb, not-false}
 use Rattle.logic.specs.Tests.{allBelow, every-at, all-at, and-right, implied, true-false}
 use Rattle.logic.specs.Refuse.{refuse-zero, refuse-none}
-use Rattle.parts.specs.declared.Leader.the-variants.{Broker}
+use Rattle.parts.specs.declared.Leader.the-variants.{Some}
 use Rattle.parts.specs.Refusal.{accepted}
 use Rattle.parts.specs.Isr.{member}
 use Rattle.parts.specs.Leader.{names}
@@ -54,14 +73,14 @@ action-accepted s action h =
     (not-false _ (p .0), p .1)
 
 -- ---- the source's tests
-pub presumes-itself : (s : State) (a : ℕ) → replicaPresumesLeadership s a ≡ true → replicaAt s a .leader ≡ Broker a
+pub presumes-itself : (s : State) (a : ℕ) → replicaPresumesLeadership s a ≡ true → replicaAt s a .leader ≡ Some a
 unfolding replicaPresumesLeadership
 presumes-itself s a h = names-iff (replicaAt s a .leader) a .0 h
 
 -- a true leader: it presumes, the quorum names it, and its epoch is the quorum's
 pub record TrueLeader (s : State) (a : ℕ) : Type 0 where
-  pub itself : replicaAt s a .leader ≡ Broker a
-  pub quorum : s .quorum .leader ≡ Broker a
+  pub itself : replicaAt s a .leader ≡ Some a
+  pub quorum : s .quorum .leader ≡ Some a
   pub epoch : replicaAt s a .epoch ≡ s .quorum .epoch
 
 pub true-leader : (s : State) (a : ℕ) → isTrueLeader s a ≡ true → TrueLeader s a
@@ -74,7 +93,7 @@ true-leader s a h =
       epoch = same-epoch-true (replicaAt s a .epoch) (s .quorum .epoch) (t 2);
     }
 
--- an epoch is left: the next epoch is not X+1
+-- an epoch is left: the next epoch is below X+1
 abbrev pub EpochLeft : State → Type 0
 EpochLeft s = nextLeaderEpoch s < maxLeaderEpoch (s .limits) + 1
 
@@ -85,7 +104,7 @@ epoch-left-iff s one = (
   (λ l. ne-eqb (nextLeaderEpoch s) (maxLeaderEpoch (s .limits) + 1) (omega (arith, l))),
 )
 
--- ---- the table, by kind: what an accepted action asks of the state, each way
+-- ---- the table, by kind: an action is accepted exactly where the state is so
 module _ (s : State) where
   -- the request of epoch e was sent
   pub request-sent : (e : ℕ) → requestMissing s e ≡ false → e < nextLeaderEpoch s
@@ -204,8 +223,8 @@ module _ (s : State) where
     (λ t. refuse-none _ _ _ (ap not (t .0)) (refuse-none _ _ _ (ap not (t .1)) refl)),
   )
 
-  -- a is in its own ISR, where it leads itself, so it has the offset of its high watermark
-  pub own-hw : (a : ℕ) → a < replicaCount (s .limits) → (replicaAt s a .leader ≡ Broker a → member (replicaAt s a .isr) a ≡ true)
+  -- where a leads itself it is in its own ISR (S5), so that an accepted advance says that it has the offset of its high watermark
+  pub own-hw : (a : ℕ) → a < replicaCount (s .limits) → (replicaAt s a .leader ≡ Some a → member (replicaAt s a .isr) a ≡ true)
       → leaderIncHighWatermarkRefusal s a ≡ accepted → replicaAt s a .hw < replicaAt s a .end
   unfolding memberHasHw
   own-hw a l own h =

@@ -1,5 +1,25 @@
 -- The nine actions: for each kind its refusals, tried in the order written, and its effect. Operators of the source keep
 -- their names; a, b and e are the operands of the table. Assumes nothing.
+--
+--   replicaPresumesLeadership s r         the leader of r is r itself
+--   replicaIsFollowing s f l              the leader of f is l
+--   isTrueLeader s l                      l presumes, the quorum names it, and its epoch is the quorum's
+--   isFollowerCaughtUp s l f n            the leader of f is l, and the end of f is at least n
+--   epochsUsedUp s, requestMissing s e    the next epoch is X+1; there is no request of epoch e
+--   epochNotAbove s i e                   e is not above the epoch of replica i
+--   controllerShrinkIsrRefusal s a        kind 0, controller shrink: its refusal, or 0. Every kind has one so named
+--   controllerShrinkIsr s a               its effect
+--   controllerElectLeader s a             kind 1, elect: the effect, as in all that follow
+--   leaderRefusal, leadBy                 refusal and effect of kind 2 by the leader that the request names
+--   becomeLeader s e                      kind 2, become leader
+--   becomeFollower s a e offset           a takes request e; where that names a leader, a's log is cut to the offset
+--   becomeFollowerAndTruncateToHw s a e   kind 3, become follower: the offset is a's hw. The refusal is becomeFollowerRefusal
+--   nextRecord s a, leaderWrite s a       the record that a writes; kind 4, write
+--   quorumUpdateLeaderAndIsr s l isr      the ISR put into the leader l and into the quorum, as kinds 5 and 6 do
+--   leaderShrinkIsr, leaderExpandIsr      kinds 5 and 6, leader shrink and leader expand
+--   memberHasHw s a m                     if m is in a's ISR, it has a as leader and has the offset of a's hw
+--   leaderIncHighWatermark s a            kind 7, advance
+--   followerReplicate s a b               kind 8, replicate
 use Prim.Native.Nat.{ℕ, _+_, min}
 use mathlib.Core.Bool.{Bool, true, false, not, _&&_, _||_}
 use mathlib.Core.List.{List, [], _∷_}
@@ -8,7 +28,7 @@ use lib.IntN.{pos}
 use Rattle.logic.specs.Tests.{allBelow, every}
 use Rattle.logic.specs.Refuse.{refuse}
 use Rattle.parts.specs.declared.Leader.{Leader}
-use Rattle.parts.specs.declared.Leader.the-variants.{None, Broker}
+use Rattle.parts.specs.declared.Leader.the-variants.{None, Some}
 use Rattle.parts.specs.Refusal.{accepted, noEpochLeft, notInIsr, alreadySo, noRequest, wrongLeader, epochNotHigher, notPresuming, noIdLeft, logFull, notTrueLeader, sameReplica, caughtUp, notCaughtUp, memberBehind, notFollowing, nothingToReplicate}
 use Rattle.parts.specs.Isr.{member, without, including, isAlone}
 use Rattle.parts.specs.Epoch.{sameEpoch, higherEpoch}
@@ -86,13 +106,13 @@ controllerElectLeaderRefusal s a =
 
 -- "leader a, ISR kept"
 unfoldable pub controllerElectLeader : State → ℕ → State
-controllerElectLeader s a = controllerUpdateIsr s (Broker a) (s .quorum .isr)
+controllerElectLeader s a = controllerUpdateIsr s (Some a) (s .quorum .isr)
 
 -- ---- kind 2, BecomeLeader
 -- "it names no leader 8; e not above the leader's epoch 9", by the leader that request e names
 unfoldable pub leaderRefusal : State → ℕ → Leader → ℕ
 leaderRefusal s e None = wrongLeader
-leaderRefusal s e (Broker b) = refuse (epochNotAbove s b e) epochNotHigher accepted
+leaderRefusal s e (Some b) = refuse (epochNotAbove s b e) epochNotHigher accepted
 
 -- "no request e 7", then those
 unfoldable pub becomeLeaderRefusal : State → ℕ → ℕ
@@ -101,7 +121,7 @@ becomeLeaderRefusal s e = refuse (requestMissing s e) noRequest (leaderRefusal s
 -- "that leader takes e, itself as leader, the request's ISR; hw stays", by the leader that request e names
 unfoldable pub leadBy : State → ℕ → Leader → State
 leadBy s e None = s
-leadBy s e (Broker b) = withReplica s b (withRequest (replicaAt s b) (pos e) (Broker b) (requestAt s e .isr))
+leadBy s e (Some b) = withReplica s b (withRequest (replicaAt s b) (pos e) (Some b) (requestAt s e .isr))
 
 unfoldable pub becomeLeader : State → ℕ → State
 becomeLeader s e = leadBy s e (requestAt s e .leader)

@@ -1,4 +1,16 @@
 -- The fresh state of every accepted configuration meets S1 to S7 and is tidy. Assumes nothing.
+--
+--   fresh-replica                 a replica of the fresh state is the fresh replica
+--   tidy-fresh-replica            which is tidy
+--   fresh-tidy                    the fresh state is tidy
+--   fresh-rules                   where the configuration is in range, it meets S1 to S7
+--   zero-tidy                     the all-zero state is tidy
+--   fresh-in, fresh-out           the answer: the fresh state of a configuration in range, and 22 with zeros for any other
+--   freshNumbers, fresh-listed    the numbers that it gives beside 0, and that it gives no other
+--   fresh-accepted                where the answer is 0, the configuration is in range, and the state is its fresh state
+--   fresh-refused-zero            where the answer is not 0, it is 22, and the state is all zeros
+--   fresh-answer-tidy             the state that goes with the answer is tidy, for every configuration
+--   fresh-answer-rules            where the answer is 0, that state meets S1 to S7
 use Prim.Native.Nat.{ℕ, _+_, _<_}
 use mathlib.Core.Path.{_≡_, refl, sym, _∙_, ap}
 use mathlib.Core.Bool.{Bool, true, false, not}
@@ -6,7 +18,7 @@ use mathlib.Core.List.{List, [], _∷_}
 use native.Mathlib.Omega.{arith}
 use lib.Dec.{ltb}
 use borrow.Author.Tests.{le-leb, lt-ltb, eq-eqb}
-use Rattle.logic.specs.Tests.{allBelow, all-by, all-none, every, every-none, every-and, and-true}
+use Rattle.logic.specs.Tests.{allBelow, all-by, all-none, every, every-none, every-and, and-both}
 use Rattle.logic.specs.Table.{table, tableFrom, getD-table, used-cong, cond-true}
 use Rattle.logic.specs.Refuse.{refuse-yes, refuse-no, byRefusal, by-accepted, listed}
 use Rattle.parts.specs.Refusal.{accepted, badConfiguration}
@@ -47,7 +59,7 @@ module _ (c : Limits) (ok : inRange c ≡ true) where
   ranges : Ranges c
   ranges = ranges-of c ok
 
-  -- what holds of the fresh replica holds of each
+  -- what holds of the fresh replica holds of each replica of the fresh state
   each-fresh : (test : Replica → ℕ → Bool) → ((i : ℕ) → test freshReplica i ≡ true)
       → allBelow (replicaCount c) (λ i. test (replicaAt (freshState c) i) i) ≡ true
   each-fresh test h =
@@ -61,16 +73,16 @@ module _ (c : Limits) (ok : inRange c ≡ true) where
       (every-and _ _ (le-leb 0 (maxLeaderEpoch c + 1) (omega arith))
       (every-and _ _ (le-leb 0 (maxRecords c) (omega arith)) every-none))
 
-  in-range : (i : ℕ) → replicaInRange c freshReplica ≡ true
+  fresh-replica-in-range : (i : ℕ) → replicaInRange c freshReplica ≡ true
   unfolding replicaInRange leaderAndIsrInRange leaderBelow
-  in-range i = and-true (le-leb 0 (logSize c) (omega arith)) (none-below (replicaCount c) (ranges .replicas))
+  fresh-replica-in-range i = and-both (le-leb 0 (logSize c) (omega arith)) (none-below (replicaCount c) (ranges .replicas))
 
   fresh2 : rule2 c 0 (freshQuorum c) (freshState c .requests) (freshState c .replicas) ≡ true
   unfolding rule2 leaderAndIsrInRange leaderBelow
   fresh2 =
       every-and _ _ (full-below (replicaCount c) (ranges .replicas))
       (every-and _ _ (all-none _)
-      (every-and _ _ (each-fresh (λ p i. replicaInRange c p) in-range) every-none))
+      (every-and _ _ (each-fresh (λ p i. replicaInRange c p) fresh-replica-in-range) every-none))
 
   fresh3 : rule3 (replicaCount c) 0 (freshQuorum c) (freshState c .requests) ≡ true
   unfolding rule3 sameEpoch lastEpoch quorumMatchesRequest sameLeader
@@ -80,13 +92,13 @@ module _ (c : Limits) (ok : inRange c ≡ true) where
   unfolding rule4 leaderInIsr allBelow
   fresh4 = refl
 
-  holds : (i : ℕ) → replicaMeetsS5 0 (freshState c .requests) freshReplica i ≡ true
+  fresh-replica-meets-s5 : (i : ℕ) → replicaMeetsS5 0 (freshState c .requests) freshReplica i ≡ true
   unfolding replicaMeetsS5 replicaMatchesRequest sameLeader names every
-  holds i = refl
+  fresh-replica-meets-s5 i = refl
 
   fresh5 : rule5 (replicaCount c) 0 (freshState c .requests) (freshState c .replicas) ≡ true
   unfolding rule5
-  fresh5 = each-fresh (replicaMeetsS5 0 (freshState c .requests)) holds
+  fresh5 = each-fresh (replicaMeetsS5 0 (freshState c .requests)) fresh-replica-meets-s5
 
   fresh6 : rule6 (replicaCount c) 0 0 (freshState c .replicas) ≡ true
   unfolding rule6 logInUse allBelow
@@ -169,6 +181,6 @@ fresh-answer-tidy c = go (inRange c) refl
     go true h = rw (fresh-in c h) (fresh-tidy c)
     go false h = rw (fresh-out c h) zero-tidy
 
--- which meets S1 to S7
+-- where the answer is 0, that state meets S1 to S7
 pub fresh-answer-rules : (c : Limits) → fresh c .refusal ≡ accepted → rules (fresh c .state) ≡ true
 fresh-answer-rules c h = let p = fresh-accepted c h in rw (p .1) (fresh-rules c (p .0))

@@ -12,6 +12,6 @@ pub mod Actions
 pub mod Act
 pub mod Accepted
 pub mod ActLaws
-pub mod Marks
+pub mod Entries
 pub mod OnePass
 pub mod StateBytes

@@ -1,4 +1,13 @@
 -- The rules S1 to S7 as predicates, and that the tests decide them. Assumes nothing.
+--
+--   S1 s .. S7 s                                    the state meets that rule
+--   Named n leader isr                              the leader is none or below n, and the ISR within n replicas
+--   MatchesRequest next requests epoch leader isr   S5 of the epoch, the leader and the ISR of a replica
+--   MeetsS5 next requests p i                       S5 of the replica p named i
+--   Has s i x                                       i is a replica, and its log has offset x
+--   Rules s                                         the state meets S1 to S7
+--   rule1-iff .. rule7-iff                          the test of a rule holds exactly where the predicate does
+--   rules-iff                                       the same of the seven together
 use Prim.Native.Nat.{ℕ, zero, suc, _+_, _^_, _≤_, _<_}
 use mathlib.Core.Path.{_≡_, refl, sym, _∙_, ap}
 use mathlib.Core.Bool.{Bool, true}
@@ -8,9 +17,9 @@ use native.Mathlib.Omega.{arith}
 use lib.Dec.{eqb, ltb, leb}
 use lib.IntN.{ℤ, pos, negsuc}
 use borrow.Author.Tests.{leb-true, le-leb, ltb-true, lt-ltb, eqb-true, eq-eqb}
-use Rattle.logic.specs.Tests.{allBelow, all-at, all-by, every-at, every-none, every-and, and-left, and-right, and-true, implied, implies, true-false}
+use Rattle.logic.specs.Tests.{allBelow, all-at, all-by, every-at, every-none, every-and, and-left, and-right, and-both, implied, implies, true-false}
 use Rattle.parts.specs.declared.Leader.{Leader}
-use Rattle.parts.specs.declared.Leader.the-variants.{None, Broker}
+use Rattle.parts.specs.declared.Leader.the-variants.{None, Some}
 use Rattle.parts.specs.Isr.{member, fullIsr, isrBelow}
 use Rattle.parts.specs.Epoch.{noEpoch, sameEpoch, lastEpoch}
 use Rattle.parts.specs.EpochLaws.{pos-injective, negsuc-injective, pos-negsuc, same-epoch-true, same-epoch-by}
@@ -32,9 +41,9 @@ use Rattle.cluster.specs.RuleLaws.{Ranges, Sizes, sizes-of}
 abbrev pub S1 : State → Type 0
 S1 s = Sizes (s .limits) (nextLeaderEpoch s) (nextRecordId s)
 
--- a leader and an ISR within n replicas
+-- the leader is none or below n, and the ISR within n replicas
 pub record Named (n : ℕ) (leader : Leader) (isr : ℕ) : Type 0 where
-  pub below : (b : ℕ) → leader ≡ Broker b → b < n
+  pub below : (b : ℕ) → leader ≡ Some b → b < n
   pub within : isr < 2 ^ n
 
 -- S2: "every end at most L; every leader none or below R; every ISR within the replicas."
@@ -53,8 +62,8 @@ pub record S3 (s : State) : Type 0 where
 
 -- S4: "in the quorum and in each request, the leader is none or in the ISR there."
 pub record S4 (s : State) : Type 0 where
-  pub quorum : (b : ℕ) → s .quorum .leader ≡ Broker b → member (s .quorum .isr) b ≡ true
-  pub requests : (e : ℕ) → e < nextLeaderEpoch s → (b : ℕ) → requestAt s e .leader ≡ Broker b → member (requestAt s e .isr) b ≡ true
+  pub quorum : (b : ℕ) → s .quorum .leader ≡ Some b → member (s .quorum .isr) b ≡ true
+  pub requests : (e : ℕ) → e < nextLeaderEpoch s → (b : ℕ) → requestAt s e .leader ≡ Some b → member (requestAt s e .isr) b ≡ true
 
 -- S5 of one replica: "a replica's epoch is from -1 to next epoch minus 1. At -1 it has no leader and an empty ISR;
 -- otherwise its leader is that of its epoch's request."
@@ -66,14 +75,14 @@ pub record MatchesRequest (nextEpoch : ℕ) (requests : List Request) (epoch : �
 -- "A replica that is its own leader is in its own ISR. hw is at most its end."
 pub record MeetsS5 (nextEpoch : ℕ) (requests : List Request) (p : Replica) (i : ℕ) : Type 0 where
   pub request : MatchesRequest nextEpoch requests (p .epoch) (p .leader) (p .isr)
-  pub own : p .leader ≡ Broker i → member (p .isr) i ≡ true
+  pub own : p .leader ≡ Some i → member (p .isr) i ≡ true
   pub hw : p .hw ≤ p .end
 
 -- S5 of every replica
 abbrev pub S5 : State → Type 0
 S5 s = (i : ℕ) → i < replicaCount (s .limits) → MeetsS5 (nextLeaderEpoch s) (s .requests) (replicaAt s i) i
 
--- replica i's log has offset x
+-- i is a replica, and its log has offset x
 pub record Has (s : State) (i x : ℕ) : Type 0 where
   pub replica : i < replicaCount (s .limits)
   pub offset : x < replicaAt s i .end
@@ -100,7 +109,7 @@ pub record Rules (s : State) : Type 0 where
 -- ---- S1
 between-by : (low high n : ℕ) → low ≤ n → n ≤ high → between low high n ≡ true
 unfolding between
-between-by low high n a b = and-true (le-leb low n a) (le-leb n high b)
+between-by low high n a b = and-both (le-leb low n a) (le-leb n high b)
 
 in-range-by : (c : Limits) → Ranges c → inRange c ≡ true
 unfolding inRange
@@ -131,7 +140,7 @@ named-iff n leader isr = (
     below = leader-below-iff n leader .0 (and-left (leaderBelow n leader) (isrBelow n isr) h);
     within = isr-below-iff n isr .0 (and-right (leaderBelow n leader) (isrBelow n isr) h);
   }),
-  (λ m. and-true (leader-below-iff n leader .1 (m .below)) (isr-below-iff n isr .1 (m .within))),
+  (λ m. and-both (leader-below-iff n leader .1 (m .below)) (isr-below-iff n isr .1 (m .within))),
 )
 
 replica-iff : (c : Limits) (p : Replica) → replicaInRange c p ≡ true ↔ (p .end ≤ logSize c) × Named (replicaCount c) (p .leader) (p .isr)
@@ -141,7 +150,7 @@ replica-iff c p = (
     leb-true (p .end) (logSize c) (and-left (leb (p .end) (logSize c)) (leaderAndIsrInRange (replicaCount c) (p .leader) (p .isr)) h),
     named-iff (replicaCount c) (p .leader) (p .isr) .0 (and-right (leb (p .end) (logSize c)) (leaderAndIsrInRange (replicaCount c) (p .leader) (p .isr)) h),
   )),
-  (λ m. and-true (le-leb (p .end) (logSize c) (m .0)) (named-iff (replicaCount c) (p .leader) (p .isr) .1 (m .1))),
+  (λ m. and-both (le-leb (p .end) (logSize c) (m .0)) (named-iff (replicaCount c) (p .leader) (p .isr) .1 (m .1))),
 )
 
 pub rule2-iff : (s : State) → rule2 (s .limits) (nextLeaderEpoch s) (s .quorum) (s .requests) (s .replicas) ≡ true ↔ S2 s
@@ -185,7 +194,7 @@ quorum-iff n q requests zero = (
     )),
     (λ last e. absurd (omega arith)),
   )),
-  (λ m. and-true (same-leader-iff (q .leader) None .1 (m .0 refl .0)) (eq-eqb (q .isr) (fullIsr n) (m .0 refl .1))),
+  (λ m. and-both (same-leader-iff (q .leader) None .1 (m .0 refl .0)) (eq-eqb (q .isr) (fullIsr n) (m .0 refl .1))),
 )
 quorum-iff n q requests (suc k) = (
   (λ h. (
@@ -207,7 +216,7 @@ rule3-iff s = (
         start = f .0;
         later = f .1;
       }),
-  (λ m. and-true (same-epoch-by (s .quorum .epoch) (lastEpoch (nextLeaderEpoch s)) (m .epoch)) (matches .1 (m .start, m .later))),
+  (λ m. and-both (same-epoch-by (s .quorum .epoch) (lastEpoch (nextLeaderEpoch s)) (m .epoch)) (matches .1 (m .start, m .later))),
 )
   where
     test : Bool
@@ -227,7 +236,7 @@ rule4-iff s = (
     requests = λ e l. leader-in-isr-iff (requestAt s e .isr) (requestAt s e .leader) .0 (all-at (nextLeaderEpoch s) (requestLeaderInIsr (s .requests)) (and-right own each h) e l);
   }),
   (λ m.
-      and-true (leader-in-isr-iff (s .quorum .isr) (s .quorum .leader) .1 (m .quorum))
+      and-both (leader-in-isr-iff (s .quorum .isr) (s .quorum .leader) .1 (m .quorum))
       (all-by (nextLeaderEpoch s) (requestLeaderInIsr (s .requests)) (λ e l. leader-in-isr-iff (requestAt s e .isr) (requestAt s e .leader) .1 (m .requests e l)))),
 )
   where
@@ -251,7 +260,7 @@ matches-iff next requests (pos e) l m = (
         rw (pos-injective e k q) at u;
     low = λ k q. absurd (pos-negsuc e k q);
   }),
-  (λ f. let u = f .used e refl in and-true (lt-ltb e next (u .0)) (same-leader-iff l (requestIn requests e .leader) .1 (u .1))),
+  (λ f. let u = f .used e refl in and-both (lt-ltb e next (u .0)) (same-leader-iff l (requestIn requests e .leader) .1 (u .1))),
 )
 matches-iff next requests (negsuc zero) l m = (
   (λ h. record {
@@ -262,7 +271,7 @@ matches-iff next requests (negsuc zero) l m = (
     used = λ k q. absurd (pos-negsuc k 0 (sym q));
     low = λ k q. sym (negsuc-injective 0 k q);
   }),
-  (λ f. let u = f .none refl in and-true (same-leader-iff l None .1 (u .0)) (eq-eqb m 0 (u .1))),
+  (λ f. let u = f .none refl in and-both (same-leader-iff l None .1 (u .0)) (eq-eqb m 0 (u .1))),
 )
 matches-iff next requests (negsuc (suc k)) l m = (
   (λ h. absurd (true-false (sym h))),

@@ -1,4 +1,18 @@
 -- What the tests of the rules say, case by case. Assumes nothing.
+--
+--   Ranges c, ranges-of                   the ranges of R, L, M and X, and that the test says so
+--   Sizes c nextEpoch nextId, sizes-of    what S1 says, and that the test says so
+--   bounded-of                            where S1 holds, the counts are within the arrays
+--   end-in-range, logs-bounded-of         where S2 holds too, so are the ends of logs
+--   quorum-start, quorum-later            S3 at the start, and after a request
+--   matches-none .. matches-other         S5 with no epoch, at an epoch used, and at any other
+--   broken-none                           no rule is broken exactly where the state meets them all
+--   only-seventh                          where some rule is broken and S1 to S6 hold, it is S7
+--   rule-refused                          the refusal of a broken rule is not 0
+--   unrefused-iff .. broken-refusal       the refusal of a state is 0 exactly where it meets the rules
+--   broken-is                             the refusal of a state that breaks a rule is 1
+--   state-listed .. broken-listed-iff     it is one of stateNumbers exactly where the state breaks a rule, else 0
+--   rules-bounded, rules-logs-bounded     counts and ends of a state that meets the rules are within the arrays
 use Prim.Native.Nat.{ℕ, zero, suc, _+_, _-_, _≤_}
 use mathlib.Core.Path.{ap, _≡_, refl, sym, _∙_}
 use mathlib.Core.Bool.{Bool, true, false, _&&_}
@@ -146,7 +160,7 @@ unfolding ruleRefusal
 rule-refusal-iff zero = ((λ e. refl), (λ e. refl))
 rule-refusal-iff (suc k) = ((λ e. absurd (omega arith)), (λ e. absurd (omega arith)))
 
--- a broken rule has a number
+-- a broken rule is refused: its number is not 0
 pub rule-refused : (k : ℕ) → ruleRefusal (suc k) ≡ accepted → ⊥
 rule-refused k e = let z = rule-refusal-iff (suc k) .0 e in omega arith
 
@@ -179,7 +193,7 @@ broken-is s h = go (brokenRule s) (λ e. broken-refusal s h (ap ruleRefusal e))
     go zero f = absurd (f refl)
     go (suc k) f = refl
 
--- its number is 0 or one of its list
+-- the number of a state is 0 or one of stateNumbers
 pub state-listed : (s : State) → listed (accepted ∷ stateNumbers) (stateRefusal s) ≡ true
 unfolding stateRefusal ruleRefusal listed
 state-listed s = go (brokenRule s)

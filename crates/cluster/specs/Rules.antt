@@ -1,5 +1,22 @@
 -- The state rules S1 to S7, each a test in the words of the paper, "each tested over the whole state before the next".
 -- A rule takes only the fields that it reads; n is R, the number of replicas. Assumes nothing.
+--
+--   between low high n                   n is from low to high
+--   inRange c                            R, L, M and X of the configuration are in range
+--   leaderAndIsrInRange n leader isr     the leader is none or below n, and the ISR within n replicas
+--   replicaInRange c p                   S2 of one replica
+--   quorumMatchesRequest                 the quorum has the leader, and at the start the ISR, that S3 asks of it
+--   replicaMatchesRequest                a replica has an epoch, a leader and an ISR that S5 asks of it
+--   replicaMeetsS5 next requests p i     S5 of the replica p named i
+--   agreesWithAll n replicas p           S7 of the log of p and every log
+--   rule1 .. rule7                       S1 to S7, each over the fields that it reads
+--   ruleTests s                          the seven of a state, in their order
+--   rules s                              the state meets S1 to S7
+--   brokenRule s                         the number of the first rule that the state breaks, 1 to 7; 0 where it breaks none
+--   ruleRefusal k                        the refusal by that number: 1, whichever rule it is; 0 at 0
+--   stateRefusal s                       the refusal of a state: 1 where it breaks a rule, else 0
+--   stateNumbers                         the numbers that it gives beside 0
+--   Bounded s, LogsBounded s             the counts, and the ends of logs, are within the arrays
 use Prim.Native.Nat.{ℕ, zero, suc, _+_, _≤_, _<_}
 use mathlib.Core.Bool.{Bool, false, not, _&&_, _||_}
 use mathlib.Core.List.{List, [], _∷_}

@@ -1,6 +1,24 @@
 -- The state of one partition, its equality, and its tidy form.
 -- "Unused room (past a log's end, past R, requests not sent) is no part of a state: equality ignores it, and every state
 -- that is worked out or read has zeros there (a zeroed leader is none)." Assumes nothing.
+--
+--   replicaCount c, logSize c             R and L of a configuration
+--   maxRecords c, maxLeaderEpoch c        M and X
+--   limitsAt at bs, limitsOf bs           R, L, M and X as four bytes: from a place on, and behind a mark
+--   nextLeaderEpoch s, nextRecordId s     the next epoch and the next record id
+--   zeroRequest                           a request of zeros: what stands where none was sent
+--   requestIn requests e, requestAt s e   the request of epoch e, in an array and in a state
+--   replicaIn replicas i, replicaAt s i   the replica named i, in an array and in a state
+--   stateOf                               the state of its six fields
+--   withRequests s l, withReplicas s l    the state with another array
+--   withReplica s i p                     the state with p as replica i
+--   withQuorumIsr s isr                   the state with another ISR of the quorum
+--   withNextRecordId s n                  the state with another next record id
+--   controllerUpdateIsr s leader isr      the state with a new quorum at the next epoch, and its request
+--   Same s t                              the two states are equal: unused room does not count
+--   tidyRequestAt s e, tidyReplicaAt s i  a request and a replica of the tidy state
+--   tidy s                                the state with zeros in its unused room
+--   zeroLimits, zeroQuorum, zeroState     all zeros
 use Prim.Native.Nat.{ℕ, _+_, _<_}
 use mathlib.Core.Path.{_≡_}
 use mathlib.Core.Bool.{cond}

@@ -1,4 +1,10 @@
 -- The rules look at no unused room: equal states break the same rule first. Assumes nothing.
+--
+--   broken-same           equal states break the same rule first
+--   state-refusal-same    they have the same refusal
+--   rules-same            both meet the rules, or neither
+--   broken-tidy           a state and its tidy form break the same rule first
+--   rules-tidy            both meet the rules, or neither
 use Prim.Native.Nat.{ℕ, zero, suc, _≤_, _<_}
 use mathlib.Core.Path.{_≡_, refl, sym, _∙_, ap, ap₂}
 use mathlib.Core.Bool.{true, not, _&&_, _||_}
@@ -127,11 +133,11 @@ module _ (c : Limits) (next : ℕ) (quorum : Quorum) (rs us : List Request) (ps 
         log-agrees-same (replicaIn ps i) (replicaIn qs i) (replicas i l) (ends i l) (replicaIn ps j)
         ∙ agrees-log-same (replicaIn ps j) (replicaIn qs j) (replicas j k) (ends j k) (replicaIn qs i)))
 
-  -- the tests from S2 on, where S2 bounds the ends of logs
-  from2-same : (nextId : ℕ) → (rule2 c next quorum rs ps ≡ true → (i : ℕ) → i < replicaCount c → replicaIn ps i .end ≤ 16)
+  -- the first test from S2 on that fails is the same, where S2 bounds the ends of logs
+  tests-from-s2-same : (nextId : ℕ) → (rule2 c next quorum rs ps ≡ true → (i : ℕ) → i < replicaCount c → replicaIn ps i .end ≤ 16)
       → firstFailing 2 (drop 1 (ruleTests (stateOf c next nextId quorum rs ps)))
       ≡ firstFailing 2 (drop 1 (ruleTests (stateOf c next nextId quorum us qs)))
-  from2-same nextId ends =
+  tests-from-s2-same nextId ends =
       failing-cong 2 _ _ _ _ rule2-same
       (λ two.
       failing-cong 3 _ _ _ _ rule3-same
@@ -144,28 +150,28 @@ module _ (c : Limits) (next : ℕ) (quorum : Quorum) (rs us : List Request) (ps 
 -- ---- the seven together
 module _ (s t : State) (m : Same s t) where
   -- t with the limits, the counts and the quorum of s, which are its own
-  other : State
-  other = stateOf (s .limits) (nextLeaderEpoch s) (nextRecordId s) (s .quorum) (t .requests) (t .replicas)
+  second : State
+  second = stateOf (s .limits) (nextLeaderEpoch s) (nextRecordId s) (s .quorum) (t .requests) (t .replicas)
 
-  other-is : other ≡ t
-  unfolding other
-  other-is = state-path (m .limits) (m .nextEpoch) (m .nextId) (m .quorum) refl refl
+  second-is : second ≡ t
+  unfolding second
+  second-is = state-path (m .limits) (m .nextEpoch) (m .nextId) (m .quorum) refl refl
 
-  -- where S1 holds, what is in use is in the arrays
-  from2 : rule1 (s .limits) (nextLeaderEpoch s) (nextRecordId s) ≡ true
-      → firstFailing 2 (drop 1 (ruleTests s)) ≡ firstFailing 2 (drop 1 (ruleTests other))
-  unfolding other
-  from2 one =
+  -- where S1 holds, what is in use is in the arrays, so the first test from S2 on that fails is the same
+  later-tests-same : rule1 (s .limits) (nextLeaderEpoch s) (nextRecordId s) ≡ true
+      → firstFailing 2 (drop 1 (ruleTests s)) ≡ firstFailing 2 (drop 1 (ruleTests second))
+  unfolding second
+  later-tests-same one =
       let b = bounded-of s one in
-      from2-same (s .limits) (nextLeaderEpoch s) (s .quorum) (s .requests) (t .requests) (s .replicas) (t .replicas)
+      tests-from-s2-same (s .limits) (nextLeaderEpoch s) (s .quorum) (s .requests) (t .requests) (s .replicas) (t .replicas)
       (λ e l. m .requests e (omega (arith, b .requests)) l)
       (λ i l. m .replicas i (omega (arith, b .replicas)) l)
       (nextRecordId s) (logs-bounded-of s one)
 
   -- equal states break the same rule first
   pub broken-same : brokenRule s ≡ brokenRule t
-  unfolding brokenRule other
-  broken-same = failing-cong 1 _ _ _ _ refl from2 ∙ ap brokenRule other-is
+  unfolding brokenRule second
+  broken-same = failing-cong 1 _ _ _ _ refl later-tests-same ∙ ap brokenRule second-is
 
   -- so they are refused alike, and meet the rules alike
   pub state-refusal-same : stateRefusal s ≡ stateRefusal t
@@ -178,7 +184,7 @@ module _ (s t : State) (m : Same s t) where
       (λ h. broken-none t .0 (sym broken-same ∙ broken-none s .1 h))
       (λ h. broken-none s .0 (broken-same ∙ broken-none t .1 h))
 
--- so the tidy form of a state breaks the rule that the state breaks
+-- so a state and its tidy form break the same rule first, and meet the rules alike
 pub broken-tidy : (s : State) → brokenRule (tidy s) ≡ brokenRule s
 broken-tidy s = broken-same (tidy s) s (tidy-same s)
 

@@ -101,6 +101,6 @@ impl State {
         ensures { λ r. ⌜ r ≡ controllerElectLeader self a ⌝ }
     {
         let q = self.quorum;
-        self.controller_update_isr(Leader::Broker(a), q.isr)
+        self.controller_update_isr(Leader::Some(a), q.isr)
     }
 }

@@ -10,7 +10,7 @@ use crate::Limits;
 use crate::Uses;
 
 impl Kind {
-    // The kind of a number.
+    // The kind of a number from 0 to 8; Unknown for any other.
     pub fn of(n: u8) -> Kind
         ensures { λ r. ⌜ r ≡ kindOf n ⌝ }
     {
@@ -61,7 +61,7 @@ impl Kind {
 }
 
 impl Uses {
-    // Whether a, b and e are used.
+    // The operands used, from whether each of a, b and e is.
     fn of(a: bool, b: bool, e: bool) -> Uses
         ensures { λ r. ⌜ r ≡ useOf a b e ⌝ }
     {

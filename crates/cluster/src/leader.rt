@@ -1,6 +1,6 @@
 // Kinds 4 to 7: what a leader does. The caller of a refusal or of an effect shows that the state meets the rules and that a
 // and b are among its replicas, and so does the caller of what kinds 5 and 6 share; the caller of a write shows also that it
-// is accepted. What the other private functions ask stands with them.
+// is accepted. What the other private functions ask is in their `requires`.
 ghost use mathlib.Core.Path.{_≡_};
 ghost use mathlib.Core.Bool.{true};
 ghost use Prim.Native.Nat.{_<_};

@@ -1,5 +1,5 @@
-// The tests that the actions share, those of the source by its names. The caller shows that the array has a replica or an
-// epoch that is asked about, and that X is in range.
+// The tests that the actions share, those of the source by its names. The caller shows that the replica that is asked about has a
+// place in the array, that an epoch compared with its own is below 16, and that X is in range where it is read.
 ghost use mathlib.Core.Path.{_≡_};
 ghost use Prim.Native.Nat.{_<_, _≤_};
 ghost use Rattle.cluster.specs.State.{maxLeaderEpoch};

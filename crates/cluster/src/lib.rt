@@ -62,7 +62,7 @@ pub struct Action {
     pub e: u8,
 }
 
-// The last kind of action.
+// The greatest number of a kind: a greater one is of no kind.
 pub const LAST_KIND: u8 = 8;
 
 // The kind of an action, by the source's names (kind 3 has a shorter one), and one for every other number.

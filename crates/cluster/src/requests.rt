@@ -25,7 +25,7 @@ impl State {
     {
         match leader {
             Leader::None => WRONG_LEADER,
-            Leader::Broker(b) => {
+            Leader::Some(b) => {
                 if self.epoch_not_above(b, e) {
                     return EPOCH_NOT_HIGHER;
                 }
@@ -47,7 +47,7 @@ impl State {
         self.leader_refusal(e, l)
     }
 
-    // The state in which the leader that a request of epoch e names has taken it, with that request's ISR.
+    // The state in which the leader that request e names has taken the epoch e, itself as leader, and that request's ISR.
     fn lead_by(self, e: u8, leader: Leader) -> State
         requires { ⌜ e < 16 ⌝ }
         requires { ⌜ leaderBelow 5 leader ≡ true ⌝ }
@@ -55,12 +55,12 @@ impl State {
     {
         match leader {
             Leader::None => self,
-            Leader::Broker(b) => {
+            Leader::Some(b) => {
                 let mut t = self;
                 let q = t.requests[e as usize];
                 let epoch = parts::epoch_of(e);
                 let p = t.replicas[b as usize];
-                let leading = p.with_request(epoch, Leader::Broker(b), q.isr);
+                let leading = p.with_request(epoch, Leader::Some(b), q.isr);
                 t.replicas[b as usize] = leading;
                 t
             }
@@ -78,7 +78,7 @@ impl State {
         self.lead_by(e, l)
     }
 
-    // Kind 3: the refusal of following by request e.
+    // Kind 3: the refusal of a's following by request e.
     pub(crate) fn become_follower_refusal(self, a: u8, e: u8) -> u8
         requires { ⌜ rules self ≡ true ⌝ }
         requires { ⌜ a < replicaCount (self .limits) ⌝ }

@@ -160,7 +160,7 @@ fn no_leader_with_isr(leader: Leader, isr: u8, expected: u8) -> bool
     false
 }
 
-// The leader, and at the start the ISR, that S3 asks of the quorum.
+// Whether the quorum has the leader, and at the start the ISR, that S3 asks of it.
 fn quorum_matches_request(count: u8, q: Quorum, requests: [Request; 16], next: u8) -> bool
     requires { ⌜ count ≤ 5 ⌝ }
     requires { ⌜ next ≤ 16 ⌝ }
@@ -225,8 +225,8 @@ pub(crate) fn rule_4(s: State) -> bool
     false
 }
 
-// The epoch, leader and ISR that S5 asks of a replica: at -1 no leader and an empty ISR, otherwise the leader of the
-// request of an epoch that is used.
+// Whether a replica has an epoch, a leader and an ISR that S5 asks of it: at -1 no leader and an empty ISR, otherwise an epoch
+// that is used and the leader of its request.
 fn replica_matches_request(
     requests: [Request; 16],
     next: u8,
@@ -276,7 +276,8 @@ fn replica_meets_s5(requests: [Request; 16], next: u8, p: Replica, i: usize) -> 
     p.hw <= p.end
 }
 
-// S5: each replica's epoch, leader and ISR match its epoch's request, and its hw is at most its end.
+// S5: each replica's epoch is from -1 to next epoch minus 1; at -1 it has no leader and an empty ISR, otherwise the leader of its
+// epoch's request; one that is its own leader is in its own ISR; hw is at most its end.
 pub(crate) fn rule_5(s: State) -> bool
     requires { ⌜ Bounded s ⌝ }
     ensures { λ r. ⌜ r ≡ rule5 (replicaCount (s .limits)) (nextLeaderEpoch s) (s .requests) (s .replicas) ⌝ }
@@ -316,9 +317,9 @@ pub(crate) fn rule_6(s: State) -> bool
     true
 }
 
-// S2, S5, S6 and S7 of the replicas, in one pass over them: a test of its own for each would copy the state each time. S7 (records
-// with one id, in one log or two, stand at one offset and carry one epoch) goes by the marks of the records seen so far. Nothing
-// past an end is read.
+// S2, S5, S6 and S7 of the replicas, in one pass over them: a test of its own for each would copy the state each time. S7
+// (records with one id, in one log or two, stand at one offset and carry one epoch) goes by a table of the entries seen so far,
+// by id. Nothing past an end is read.
 fn replicas_meet(s: State) -> bool
     requires { ⌜ Bounded s ⌝ }
     requires { ⌜ logSize (s .limits) ≤ 16 ⌝ }

@@ -1,4 +1,4 @@
-// Zeros in unused room.
+// Zeros put in the unused room of a state.
 ghost use mathlib.Core.Path.{_≡_};
 ghost use mathlib.Core.Bool.{cond};
 ghost use lib.Dec.{ltb};

@@ -1,8 +1,27 @@
--- The three demands, in their own order and words. Each is one statement over every state, action, row of bytes and renaming that it
--- speaks of; below it stands its proof, which cites. The contract of each entry point is an equation with one of these definitions, for
--- every input, or says that it replies what such an answer gives (`Replies`, of the C interface); so what holds of the definitions holds
--- of what the library answers. That the functions end and are safe is part of their proofs. A state, action or buffer is any value of
--- its type, and bytes are any list of numbers; where only numbers below 256 are meant, `Bytes` says so. Assumes nothing.
+-- The three demands, in their own order and words. Each is one statement over every state, action, row of bytes and renaming that
+-- it speaks of; below it stands its proof, which cites. The contract of each entry point is an equation with one of these
+-- definitions, for every input, or says that it replies what such an answer gives (`Replies`, of the C interface); so what holds
+-- of the definitions holds of what the library answers. That the functions end and are safe is part of their proofs. A state,
+-- action or buffer is any value of its type, and bytes are any list of numbers; where only numbers below 256 are meant, `Bytes`
+-- says so. Assumes nothing.
+--
+--   Demand1                                       every input gets an answer; what a refusal gives back and leaves
+--     fresh-answers .. representative-answers     every answer has 0 or a number of its list
+--     fresh-in-range .. representative-by-state   which input is refused
+--     state-rules .. broken-representative        what is answered of a state that breaks a rule
+--     action-gives-back .. interface-leaves       what stands beside a refusal: the state as given, zeros, the buffer as it was
+--     run-answers .. run-zeros                    the same of a run
+--   Demand2                                       actions, images and verdicts are those of the model and of the rules
+--     accepted-where-allowed .. one-meaning       an action is accepted exactly when the model allows it; the next state
+--     image-is-bytes .. no-other-bytes            a state has one image, and no other bytes are read as it
+--     opens .. stops-rightly                      how a run opens, goes on, ends or is refused
+--     weak-never-fails .. exposed-most            weak, strong and exposed, over the states of a run
+--   Demand3                                       replica numbers are only names
+--     is-a-renaming .. rest-stays                 what a renaming is, and what it does to a state
+--     representatives .. least-image              when two representatives are equal, and which state is one
+--     actions, renaming-is                        a renamed action on a renamed state; what renaming answers
+--     runs                                        a run renamed throughout
+--   demand-1, demand-2, demand-3                  their proofs
 use Prim.Native.Nat.{ℕ, suc, _≤_, _<_, _+_, _*_}
 use mathlib.Core.Path.{_≡_, sym, ap, _∙_, refl}
 use mathlib.Core.Bool.{true, false, not}
@@ -58,14 +77,14 @@ use Rattle.published.specs.Engine.{action-is-published}
 use Rattle.published.specs.Behaviours.{next-is-accepted}
 use Rattle.published.specs.Equality.{same-model-refl}
 use Rattle.published.specs.OneToOne.{one-to-one}
-use Rattle.runs.specs.Run.{configurationWidth, recordWidth, longestRun, configurationMark, actionMark, actionIn, opening, unopened, judge}
-use Rattle.runs.specs.RecordLaws.{record-whole}
+use Rattle.runs.specs.Run.{configurationWidth, runRecordWidth, longestRun, configurationMark, actionMark, actionIn, opening, unopened, judge}
+use Rattle.runs.specs.RunRecordLaws.{run-record-whole}
 use Rattle.runs.specs.Opening.{firstState, judge-unopened}
 use Rattle.verdicts.specs.RenameRun.{renameRun, RenamesRun, renameVerdict}
 use Rattle.verdicts.specs.RunRenamed.{run-renamed}
-use Rattle.verdicts.specs.RunBehaviour.{nextRecord, stateAt, constantsIn, Joins, opening-is, opens-fresh, run-is-behaviour, record-joins, refused-not-allowed, reached}
+use Rattle.verdicts.specs.RunBehaviour.{nextRunRecord, stateAt, constantsIn, Joins, opening-is, opens-fresh, run-is-behaviour, run-record-joins, refused-not-allowed, reached}
 use Rattle.verdicts.specs.RunProperties.{weak-never, weak-first, strong-never, strong-first, exposed-run-at, exposed-run-by}
-use Rattle.verdicts.specs.VerdictLaws.{StopsAt, refused-record, runNumbers, run-listed, accepted-fills, accepted-at, refused-by}
+use Rattle.verdicts.specs.VerdictTheorems.{StopsAt, refused-run-record, runNumbers, run-listed, accepted-fills, accepted-at, refused-by}
 use Rattle.replay.specs.Interface.{Reply, number, outAfter}
 use Rattle.replay.specs.InterfaceLaws.{refused-leaves}
 
@@ -82,8 +101,8 @@ pub record Demand1 : Type 0 where
   pub reading-answers : (bs : List ℕ) → listed (accepted ∷ readNumbers) (readImage bs .refusal) ≡ true
   pub renaming-answers : (s : State) (p : List ℕ) → listed (accepted ∷ renameNumbers) (rename s p .refusal) ≡ true
   pub representative-answers : (s : State) → listed (accepted ∷ stateNumbers) (represent s .refusal) ≡ true
-  -- "Broken input is refused": a configuration exactly where it is out of range, an image that gives no state of the rules, places that
-  -- are no renaming, a buffer that is too short; and a question on weak or strong ISR, or for a representative, by nothing but the state
+  -- "Broken input is refused": a configuration exactly where it is out of range, an image whose state breaks a rule, places that are
+  -- no renaming, a buffer that is too short; and a question on weak or strong ISR, or for a representative, by nothing but the state
   pub fresh-in-range : (c : Limits) → inRange c ≡ true → fresh c ≡ answer accepted (freshState c)
   pub fresh-out-of-range : (c : Limits) → inRange c ≡ false → fresh c ≡ withZeros badConfiguration
   pub read-meets-the-rules : (bs : List ℕ) → readImage bs .refusal ≡ accepted → rules (readImage bs .state) ≡ true
@@ -197,22 +216,22 @@ pub record Demand2 : Type 1 where
   pub starts : (run : List ℕ) → opening run .refusal ≡ accepted → stateAt run 0 ≡ freshState (limitsOf run)
   pub starts-by-init : (run : List ℕ) → opening run .refusal ≡ accepted → Init (constantsIn run) (meaning (stateAt run 0))
   -- each accepted record has six bytes of the run and the action mark, and its own action joins the state before it and the next one
-  pub records-join : (run : List ℕ) → opening run .refusal ≡ accepted → (k : ℕ) → k < judge run .tally .accepted → Joins run k
+  pub run-records-join : (run : List ℕ) → opening run .refusal ≡ accepted → (k : ℕ) → k < judge run .tally .accepted → Joins run k
   -- it goes on to its end, which is accepted exactly where six bytes for each accepted record, and the configuration's, fill the run; or
   -- to the first record that is refused, at its byte: by 21, then 20, then the number of its action on the state before it. The action of
   -- a refused record that has six bytes and the mark is one that the model does not allow
   pub ends : (run : List ℕ) → opening run .refusal ≡ accepted
-      → judge run .refusal ≡ accepted ↔ length run ≡ configurationWidth + recordWidth * judge run .tally .accepted
+      → judge run .refusal ≡ accepted ↔ length run ≡ configurationWidth + runRecordWidth * judge run .tally .accepted
   pub ends-at : (run : List ℕ) → judge run .refusal ≡ accepted → judge run .at ≡ length run
   pub stops : (run : List ℕ) → opening run .refusal ≡ accepted → (judge run .refusal ≡ accepted → ⊥) → StopsAt run
   pub stops-by : (run : List ℕ) → opening run .refusal ≡ accepted → (judge run .refusal ≡ accepted → ⊥)
       → judge run .refusal
-      ≡ refuse (ltb (length (nextRecord run)) recordWidth) tooShort
-      (refuse (not (marked actionMark (nextRecord run))) wrongMark
-      (act (judge run .state) (actionIn (nextRecord run)) .refusal))
+      ≡ refuse (ltb (length (nextRunRecord run)) runRecordWidth) tooShort
+      (refuse (not (marked actionMark (nextRunRecord run))) wrongMark
+      (act (judge run .state) (actionIn (nextRunRecord run)) .refusal))
   pub stops-rightly : (run : List ℕ) → opening run .refusal ≡ accepted → (judge run .refusal ≡ accepted → ⊥)
-      → length (nextRecord run) ≡ recordWidth → marked actionMark (nextRecord run) ≡ true
-      → (v : ModelState) → Choice (constantsIn run) (actionIn (nextRecord run)) (meaning (judge run .state)) v → ⊥
+      → length (nextRunRecord run) ≡ runRecordWidth → marked actionMark (nextRunRecord run) ≡ true
+      → (v : ModelState) → Choice (constantsIn run) (actionIn (nextRunRecord run)) (meaning (judge run .state)) v → ⊥
   -- weak and strong are 0 exactly where the published property holds of every state of the run, and otherwise the number of the first
   -- state that fails it
   pub weak-never-fails : (run : List ℕ) → opening run .refusal ≡ accepted
@@ -256,12 +275,12 @@ demand-2 =
       opens = opening-is;
       starts = opens-fresh;
       starts-by-init = λ run ok. run-is-behaviour run ok .0;
-      records-join = record-joins;
+      run-records-join = run-record-joins;
       ends = accepted-fills;
       ends-at = accepted-at;
-      stops = refused-record;
+      stops = refused-run-record;
       stops-by = refused-by;
-      stops-rightly = λ run ok h six m. refused-not-allowed run ok h (record-whole actionMark (nextRecord run) recordWidth .1 (omega (arith, six), m));
+      stops-rightly = λ run ok h six m. refused-not-allowed run ok h (run-record-whole actionMark (nextRunRecord run) runRecordWidth .1 (omega (arith, six), m));
       weak-never-fails = weak-never;
       weak-fails-first = weak-first;
       strong-never-fails = strong-never;
@@ -303,7 +322,7 @@ pub record Demand3 : Type 0 where
   pub actions : (s : State) → rules s ≡ true → (p : List ℕ) → Renames s p → (action : Action)
       → act (renamed p s) (renameAction (replicaCount (s .limits)) (newName p) action)
       ≡ actionAnswer (act s action .refusal) (renamed p (act s action .state))
-  -- what renaming answers of such a state is that state
+  -- what renaming answers of such a state is the state renamed
   pub renaming-is : (s : State) → rules s ≡ true → (p : List ℕ) → Renames s p → rename s p ≡ answer accepted (renamed p s)
   -- "For every run of bytes, whatever it holds and wherever it is refused, and for every renaming": one claim over all bytes
   pub runs : (run p : List ℕ) → RenamesRun run p → judge (renameRun p run) ≡ renameVerdict p (judge run)

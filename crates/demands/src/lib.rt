@@ -1,1 +1,1 @@
-// The three demands as three statements; no code.
+// The three demands as three statements, proved by citing the theorems of other crates; no code.

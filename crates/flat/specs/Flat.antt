@@ -1,7 +1,8 @@
--- The flat form of a state, in which it crosses the C interface. "A flat state is 226 bytes: R, L, M, X, next epoch, next id,
--- quorum epoch, quorum leader, quorum ISR; 16 times (leader, ISR); 5 times (hw, epoch, leader, ISR, end, 16 times (id, epoch)).
--- Quorum, replica and record epochs are two's complement bytes; next epoch is unsigned; a leader is 0 for none and i + 1 for
--- replica i". Unused room is part of it. Assumes nothing.
+-- The flat form of a state, in which it crosses the C interface: 226 bytes, laid out as interface/replay.h says. First R, L, M, X,
+-- next epoch, next id, quorum epoch, quorum leader and quorum ISR; then 16 requests, each a leader and an ISR; then 5 replicas, each
+-- hw, epoch, leader, ISR, end and 16 records of id and epoch. The epochs of the quorum, the replicas and the records are two's
+-- complement bytes, and the next epoch is unsigned. A leader is 0 for none and i + 1 for replica i. Unused room is part of it.
+-- Assumes nothing.
 use Prim.Native.Nat.{ℕ, zero, suc, _+_, _*_}
 use mathlib.Core.Bool.{cond}
 use mathlib.Core.List.{List, [], _∷_, _++_}
@@ -10,13 +11,13 @@ use lib.ListN.{drop}
 use Rattle.logic.specs.Table.{table}
 use Rattle.logic.specs.Concat.{concatBelow}
 use Rattle.parts.specs.declared.Leader.{Leader}
-use Rattle.parts.specs.declared.Leader.the-variants.{None, Broker}
+use Rattle.parts.specs.declared.Leader.the-variants.{None, Some}
 use Rattle.parts.specs.Epoch.{epochByte, epochOfByte}
 use Rattle.parts.specs.Mark.{byteAt}
 use Rattle.replica.specs.declared.Record.{Record}
 use Rattle.replica.specs.declared.Replica.{Replica}
 use Rattle.replica.specs.Replica.{replicaOf}
-use Rattle.replica.specs.ReplicaBytes.{headWidth, recordWidth, recordBytesAt, replicaHeadBy, recordOf, endPlace}
+use Rattle.replica.specs.ReplicaBytes.{headWidth, logRecordWidth, recordBytesAt, replicaHeadBy, recordOf, endPlace}
 use Rattle.cluster.specs.declared.Quorum.{Quorum}
 use Rattle.cluster.specs.declared.Request.{Request}
 use Rattle.cluster.specs.declared.State.{State}
@@ -59,19 +60,19 @@ abbrev pub quorumIsrPlace : ℕ
 quorumIsrPlace = 8
 
 -- ---- leaders
--- "a leader is 0 for none and i + 1 for replica i". Replica 255 has no byte, and no state that is read or answered names it;
--- it is written as none.
+-- the byte of a leader: 0 for none, and i + 1 for replica i. Replica 255 has no byte, and no state that is read or answered names
+-- it; it is written as none.
 unfoldable pub flatLeader : Leader → ℕ
 flatLeader None = 0
-flatLeader (Broker i) = cond (ltb i 255) (i + 1) 0
+flatLeader (Some i) = cond (ltb i 255) (i + 1) 0
 
--- the leader of a byte; "255 is replica 254"
+-- the leader of a byte: none for 0, and replica b - 1 for any other byte b
 unfoldable pub leaderOfFlat : ℕ → Leader
 leaderOfFlat zero = None
-leaderOfFlat (suc i) = Broker i
+leaderOfFlat (suc i) = Some i
 
 -- ---- the bytes of a state
--- "(leader, ISR)"
+-- a request: leader, ISR
 abbrev pub flatRequest : Request → List ℕ
 flatRequest q = flatLeader (q .leader) ∷ q .isr ∷ []
 
@@ -79,7 +80,7 @@ flatRequest q = flatLeader (q .leader) ∷ q .isr ∷ []
 abbrev pub flatRequestAt : State → ℕ → List ℕ
 flatRequestAt s e = flatRequest (requestAt s e)
 
--- "(hw, epoch, leader, ISR, end, 16 times (id, epoch))"
+-- a replica: hw, epoch, leader, ISR, end, and id and epoch of all 16 records
 abbrev pub flatReplica : Replica → List ℕ
 flatReplica p = replicaHeadBy p (flatLeader (p .leader)) ++ concatBelow 16 (recordBytesAt p)
 
@@ -87,7 +88,7 @@ flatReplica p = replicaHeadBy p (flatLeader (p .leader)) ++ concatBelow 16 (reco
 abbrev pub flatReplicaAt : State → ℕ → List ℕ
 flatReplicaAt s i = flatReplica (replicaAt s i)
 
--- "R, L, M, X, next epoch, next id, quorum epoch, quorum leader, quorum ISR"
+-- the first part: R, L, M, X, next epoch, next id, quorum epoch, quorum leader, quorum ISR
 abbrev pub flatHeader : State → List ℕ
 flatHeader s =
     replicaCount (s .limits)
@@ -110,7 +111,7 @@ requestOfFlat bs = record { leader = leaderOfFlat (byteAt bs 0); isr = byteAt bs
 
 -- the record at offset x, behind the replica's first five bytes
 abbrev pub recordOfFlat : List ℕ → ℕ → Record
-recordOfFlat bs x = recordOf (drop (headWidth + recordWidth * x) bs)
+recordOfFlat bs x = recordOf (drop (headWidth + logRecordWidth * x) bs)
 
 abbrev pub replicaOfFlat : List ℕ → Replica
 replicaOfFlat bs =

@@ -6,24 +6,24 @@ use native.Mathlib.Omega.{arith}
 use lib.ListN.{length, drop, length-append}
 use lib.Seq.{drop-drop}
 use Rattle.logic.specs.Concat.{concatBelow, concat-width}
-use Rattle.parts.specs.declared.Leader.the-variants.{Broker}
+use Rattle.parts.specs.declared.Leader.the-variants.{Some}
 use Rattle.replica.specs.declared.Replica.{Replica}
-use Rattle.replica.specs.ReplicaBytes.{headWidth, recordWidth, recordBytesAt, recordOf}
+use Rattle.replica.specs.ReplicaBytes.{headWidth, logRecordWidth, recordBytesAt, recordOf}
 use Rattle.cluster.specs.declared.State.{State}
 use Rattle.cluster.specs.State.{replicaAt}
 use Rattle.flat.specs.Flat.{leaderOfFlat, flatRequestAt, flatReplica, flatReplicaAt, recordOfFlat, flat}
 
 -- ---- reading
-pub leader-of-some : (b : ℕ) → (b ≡ 0 → ⊥) → Broker (b - 1) ≡ leaderOfFlat b
+pub leader-of-some : (b : ℕ) → (b ≡ 0 → ⊥) → Some (b - 1) ≡ leaderOfFlat b
 unfolding leaderOfFlat
 leader-of-some zero h = absurd (h refl)
-leader-of-some (suc b) h = ap Broker (omega arith)
+leader-of-some (suc b) h = ap Some (omega arith)
 
 -- the record at offset x of the replica that starts at a place
-pub record-at : (bs : List ℕ) (at x : ℕ) → recordOf (drop (at + headWidth + recordWidth * x) bs) ≡ recordOfFlat (drop at bs) x
+pub record-at : (bs : List ℕ) (at x : ℕ) → recordOf (drop (at + headWidth + logRecordWidth * x) bs) ≡ recordOfFlat (drop at bs) x
 record-at bs at x =
-    let e : at + (headWidth + recordWidth * x) ≡ at + headWidth + recordWidth * x = omega arith in
-    ap recordOf (sym (drop-drop (headWidth + recordWidth * x) at bs ∙ ap (λ (k : ℕ). drop k bs) e))
+    let e : at + (headWidth + logRecordWidth * x) ≡ at + headWidth + logRecordWidth * x = omega arith in
+    ap recordOf (sym (drop-drop (headWidth + logRecordWidth * x) at bs ∙ ap (λ (k : ℕ). drop k bs) e))
 
 -- ---- lengths
 pub replica-width : (p : Replica) → length (flatReplica p) ≡ 37

@@ -1,5 +1,14 @@
--- "Every 226 bytes are some State, and flat to State to flat gives the same bytes." And the other way: a state comes back from its
--- flat form, unused room too. Assumes nothing.
+-- Every 226 bytes are read as some state, whose flat form is these bytes again. And the other way: a state comes back from its flat
+-- form, unused room too. Assumes nothing.
+--
+--   parts-joined, parts-again  parts of w bytes, read at their places and written again, are the bytes that they were read from
+--   bytes-back                 226 bytes, read as a state and written again, are the same bytes
+--   bytes-one-to-one           so no two of them are one state
+--   Flattens s                 its epochs and leaders, in unused room too, have bytes of their own, and its arrays their lengths
+--   part-at, parts-found       parts of w bytes, written one after the other, are read back at their places
+--   state-back                 a state that Flattens comes back from its flat form
+--   flattens-tidy              the tidy form of a state that meets the rules Flattens
+--   answer-back                so a tidy state that meets the rules comes back from its flat form
 use Prim.Native.Nat.{ℕ, zero, suc, _+_, _*_, _≤_, _<_}
 use mathlib.Core.Path.{_≡_, refl, sym, _∙_, ap, ap₂}
 use mathlib.Core.Bool.{Bool, true, false, cond}
@@ -15,14 +24,14 @@ use borrow.Author.Tests.{lt-ltb, le-ltb}
 use Rattle.logic.specs.Table.{table, tableFrom, length-table, getD-table, ext-table, cond-true}
 use Rattle.logic.specs.Concat.{concatBelow, concat-width}
 use Rattle.parts.specs.declared.Leader.{Leader}
-use Rattle.parts.specs.declared.Leader.the-variants.{None, Broker}
+use Rattle.parts.specs.declared.Leader.the-variants.{None, Some}
 use Rattle.parts.specs.Mark.{byteAt}
 use Rattle.parts.specs.ByteLaws.{SmallEpoch, SmallLeader, epoch-back, epoch-byte-back, last-small}
 use Rattle.parts.specs.Bytes.{Bytes, bytes-drop, front-bytes}
 use Rattle.replica.specs.declared.Record.{Record}
 use Rattle.replica.specs.declared.Replica.{Replica}
 use Rattle.replica.specs.Replica.{replicaOf, zeroRecord, noReplica, recordAt, tidyRecord, tidyReplica}
-use Rattle.replica.specs.ReplicaBytes.{headWidth, recordWidth, recordBytes, recordBytesAt, replicaHeadBy, recordOf}
+use Rattle.replica.specs.ReplicaBytes.{headWidth, logRecordWidth, recordBytes, recordBytesAt, replicaHeadBy, recordOf}
 use Rattle.cluster.specs.declared.Quorum.{Quorum}
 use Rattle.cluster.specs.declared.Request.{Request}
 use Rattle.cluster.specs.declared.State.{State}
@@ -40,7 +49,7 @@ unfolding flatLeader leaderOfFlat
 leader-bytes zero h = refl
 leader-bytes (suc i) h = cond-true (ltb i 255) (i + 1) 0 (lt-ltb i 255 (omega arith)) ∙ omega arith
 
--- parts of w bytes one after the other
+-- n parts, each the next w bytes of a list, are the first w * n bytes of it
 parts-joined : (w n : ℕ) (f : ℕ → List ℕ) (bs : List ℕ) → ((i : ℕ) → i < n → f i ≡ take w (drop (w * i) bs)) → concatBelow n f ≡ take (w * n) bs
 unfolding concatBelow
 parts-joined w zero f bs h = let e : w * 0 ≡ 0 = omega arith in rw e
@@ -48,7 +57,7 @@ parts-joined w (suc n) f bs h =
     let e : w * suc n ≡ w * n + w = omega arith in
     rw e (ap₂ (λ (a b : List ℕ). a ++ b) (parts-joined w n f bs (λ i l. h i (omega arith))) (h n (omega arith)) ∙ sym (take-add (w * n) w bs))
 
--- part i of n is among them
+-- part i of n ends within the n parts
 part-within : (w n i : ℕ) → i < n → w * i + w ≤ w * n
 part-within w n i l = let e : w * suc i ≤ w * n = mul-le-mul-left w (omega arith) in omega arith
 
@@ -65,10 +74,10 @@ parts-again : {A : Type 0} (w n place : ℕ) (of : List ℕ → A) (bytes : A �
     → ((cs : List ℕ) → Bytes cs → w ≤ length cs → bytes (of cs) ≡ take w cs)
     → (bs : List ℕ) → Bytes bs → place + w * n ≤ length bs
     → concatBelow n (λ i. bytes (getD (table n (λ k. of (drop (place + w * k) bs))) i d)) ≡ take (w * n) (drop place bs)
-parts-again w n place of bytes d again bs b h = parts-joined w n _ (drop place bs) at
+parts-again w n place of bytes d again bs b h = parts-joined w n _ (drop place bs) part-again
   where
-    at : (i : ℕ) → i < n → bytes (getD (table n (λ k. of (drop (place + w * k) bs))) i d) ≡ take w (drop (w * i) (drop place bs))
-    at i l =
+    part-again : (i : ℕ) → i < n → bytes (getD (table n (λ k. of (drop (place + w * k) bs))) i d) ≡ take w (drop (w * i) (drop place bs))
+    part-again i l =
         let whole : w * i + w ≤ w * n = part-within w n i l in
         let k : w ≤ length (drop (place + w * i) bs) = rw (length-drop (place + w * i) bs) (omega arith) in
         ap bytes (getD-table n (λ k. of (drop (place + w * k) bs)) i d l)
@@ -81,9 +90,9 @@ replica-bytes bs b h =
     let head : replicaHeadBy (replicaOfFlat bs) (flatLeader (leaderOfFlat (byteAt bs 2))) ≡ take 5 bs =
     ap₂ (λ (e l : ℕ). byteAt bs 0 ∷ e ∷ l ∷ byteAt bs 3 ∷ byteAt bs 4 ∷ []) (epoch-byte-back (byteAt bs 1) (b .byte 1)) (leader-bytes (byteAt bs 2) (b .byte 2))
     ∙ front-bytes 5 bs (omega arith) in
-    ap₂ (λ (a c : List ℕ). a ++ c) head (parts-again recordWidth 16 headWidth recordOf recordBytes zeroRecord record-bytes bs b h) ∙ sym (take-add 5 32 bs)
+    ap₂ (λ (a c : List ℕ). a ++ c) head (parts-again logRecordWidth 16 headWidth recordOf recordBytes zeroRecord record-bytes bs b h) ∙ sym (take-add 5 32 bs)
 
--- "flat to State to flat gives the same bytes"
+-- 226 bytes, read as a state and written again, are the same bytes
 pub bytes-back : (bs : List ℕ) → Bytes bs → length bs ≡ flatWidth → flat (stateOfFlat bs) ≡ bs
 unfolding flat stateOfFlat table tableFrom
 bytes-back bs b h =
@@ -102,7 +111,7 @@ pub bytes-one-to-one : (bs cs : List ℕ) → Bytes bs → Bytes cs → length b
 bytes-one-to-one bs cs b c h k e = sym (bytes-back bs b h) ∙ ap flat e ∙ bytes-back cs c k
 
 -- ---- a state, written and read again
--- all that a state holds, unused room too, fits in a byte, and its arrays have their lengths
+-- each epoch and each leader of a state, in unused room too, has a byte that it is read back from, and the arrays have their lengths
 pub record Flattens (s : State) : Type 0 where
   pub requestsLength : length (s .requests) ≡ 16
   pub replicasLength : length (s .replicas) ≡ 5
@@ -117,7 +126,7 @@ pub record Flattens (s : State) : Type 0 where
 leader-back : (l : Leader) → SmallLeader l → leaderOfFlat (flatLeader l) ≡ l
 unfolding leaderOfFlat flatLeader
 leader-back None h = refl
-leader-back (Broker b) h =
+leader-back (Some b) h =
     let e : cond (ltb b 255) (b + 1) 0 ≡ suc b = cond-true (ltb b 255) (b + 1) 0 (lt-ltb b 255 (h b refl)) ∙ omega arith in
     ap leaderOfFlat e
 
@@ -147,10 +156,10 @@ parts-found : {A : Type 0} (w n place : ℕ) (of : List ℕ → A) (bytes : A �
     → length l ≡ n → drop place bs ≡ concatBelow n (λ i. bytes (getD l i d)) ++ rest → ((i : ℕ) → i < n → length (bytes (getD l i d)) ≡ w)
     → ((i : ℕ) → i < n → (more : List ℕ) → of (bytes (getD l i d) ++ more) ≡ getD l i d)
     → table n (λ k. of (drop (place + w * k) bs)) ≡ l
-parts-found w n place of bytes d l bs rest length-is behind width back = sym (ext-table d n (λ k. of (drop (place + w * k) bs)) l length-is at)
+parts-found w n place of bytes d l bs rest length-is behind width back = sym (ext-table d n (λ k. of (drop (place + w * k) bs)) l length-is part-found)
   where
-    at : (i : ℕ) → i < n → getD l i d ≡ of (drop (place + w * i) bs)
-    at i k =
+    part-found : (i : ℕ) → i < n → getD l i d ≡ of (drop (place + w * i) bs)
+    part-found i k =
         let found = part-at w n (λ j. bytes (getD l j d)) rest width i k in
         sym (ap of (sym (drop-drop (w * i) place bs) ∙ ap (drop (w * i)) behind ∙ found .1) ∙ back i k (found .0))
 
@@ -158,7 +167,7 @@ replica-back : (p : Replica) (more : List ℕ) → length (p .log) ≡ 16 → Sm
     → ((x : ℕ) → x < 16 → SmallEpoch (recordAt p x .epoch)) → replicaOfFlat (flatReplica p ++ more) ≡ p
 replica-back p more n e l r =
     let log : table 16 (recordOfFlat (flatReplica p ++ more)) ≡ p .log =
-    parts-found recordWidth 16 headWidth recordOf recordBytes zeroRecord (p .log) (flatReplica p ++ more) more n refl (λ x k. refl)
+    parts-found logRecordWidth 16 headWidth recordOf recordBytes zeroRecord (p .log) (flatReplica p ++ more) more n refl (λ x k. refl)
     (λ x k left. record-back (recordAt p x) left (r x k)) in
     ap (λ (z : ℤ). replicaOf (p .hw) z (leaderOfFlat (flatLeader (p .leader))) (p .isr) (p .end) (table 16 (recordOfFlat (flatReplica p ++ more)))) (epoch-back (p .epoch) e)
     ∙ ap (λ (k : Leader). replicaOf (p .hw) (p .epoch) k (p .isr) (p .end) (table 16 (recordOfFlat (flatReplica p ++ more)))) (leader-back (p .leader) l)
@@ -192,7 +201,7 @@ state-back s f =
     ap (λ (q : Quorum). stateOf (s .limits) (nextLeaderEpoch s) (nextRecordId s) q (table 16 (requestOfFlatAt (flat s))) (table 5 (replicaOfFlatAt (flat s)))) quorum
     ∙ ap₂ (λ (q : List Request) (p : List Replica). stateOf (s .limits) (nextLeaderEpoch s) (nextRecordId s) (s .quorum) q p) (requests-back s f) (replicas-back s f)
 
--- ---- a tidy state that meets the rules is so
+-- ---- a tidy state that meets the rules comes back too
 small-zero : SmallEpoch (pos 0)
 small-zero = omega arith
 
@@ -256,6 +265,6 @@ flattens-tidy s h =
       recordEpoch = λ i x l k. rw (getD-table 5 (tidyReplicaAt s) i noReplica l) (tidy-replica-small s h i l .2 x k);
     }
 
--- what a function of the interface gives of a tidy state that meets the rules is taken as that state
+-- what a function of the interface gives of a tidy state that meets the rules is read as that state by the next
 pub answer-back : (s : State) → rules s ≡ true → tidy s ≡ s → stateOfFlat (flat s) ≡ s
 answer-back s h t = rw t at (state-back (tidy s) (flattens-tidy s h))

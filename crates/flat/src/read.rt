@@ -21,7 +21,7 @@ use parts::Leader;
 use replica::Record;
 use replica::Replica;
 use replica::bytes::HEAD_WIDTH;
-use replica::bytes::RECORD_WIDTH;
+use replica::bytes::LOG_RECORD_WIDTH;
 use replica::bytes::record_of;
 
 // A leader: 0 is none, and i + 1 is replica i.
@@ -31,7 +31,7 @@ fn leader_of(b: u8) -> Leader
     if b == 0 {
         return Leader::None;
     }
-    Leader::Broker(b - 1)
+    Leader::Some(b - 1)
 }
 
 // A request: leader, ISR.
@@ -73,7 +73,7 @@ fn log_of(bytes: &[u8], at: usize) -> [Record; 16]
     let mut log = [Record { id: 0, epoch: 0 }; 16];
     let mut x: usize = 0;
     while x < 16 {
-        let r = record_of(bytes, at + HEAD_WIDTH + RECORD_WIDTH * x);
+        let r = record_of(bytes, at + HEAD_WIDTH + LOG_RECORD_WIDTH * x);
         log[x] = r;
         x = x + 1;
     }

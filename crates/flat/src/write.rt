@@ -20,7 +20,7 @@ fn leader_byte(leader: Leader) -> u8
 {
     match leader {
         Leader::None => 0,
-        Leader::Broker(i) => if i < 255 { i + 1 } else { 0 },
+        Leader::Some(i) => if i < 255 { i + 1 } else { 0 },
     }
 }
 

@@ -5,7 +5,7 @@ use mathlib.Core.List.{[], _∷_}
 use lib.IntN.{pos}
 use lib.ListN.{replicate, set}
 use Rattle.logic.specs.Concat.{concatBelow}
-use Rattle.parts.specs.declared.Leader.the-variants.{Broker}
+use Rattle.parts.specs.declared.Leader.the-variants.{Some}
 use Rattle.parts.specs.Epoch.{epochByte}
 use Rattle.parts.specs.Leader.{leaderByte}
 use Rattle.replica.specs.declared.Replica.{Replica}
@@ -14,16 +14,16 @@ use Rattle.cluster.specs.declared.State.{State}
 use Rattle.cluster.specs.State.{stateOf, zeroRequest}
 use Rattle.images.specs.Image.{logBytes, requestsBytes, replicaBytes, replicasBytes, image}
 
--- a replica of that state: it follows 0 at epoch 0
+-- a replica of that state, of epoch 0 and under leader 0
 unfoldable pub paperReplica : ℕ → Replica
-paperReplica end = replicaOf 0 (pos 0) (Broker 0) 7 end (replicate 16 zeroRecord)
+paperReplica end = replicaOf 0 (pos 0) (Some 0) 7 end (replicate 16 zeroRecord)
 
 -- the last state of example 1
 unfoldable pub paperState : State
 paperState =
     stateOf (record { «replica_count» = 3; «log_size» = 4; «max_records» = 4; «max_leader_epoch» = 3 }) 1 1
-    (record { epoch = pos 0; leader = Broker 0; isr = 7 })
-    (set (replicate 16 zeroRequest) 0 (record { leader = Broker 0; isr = 7 }))
+    (record { epoch = pos 0; leader = Some 0; isr = 7 })
+    (set (replicate 16 zeroRequest) 0 (record { leader = Some 0; isr = 7 }))
     (paperReplica 1 ∷ paperReplica 1 ∷ paperReplica 0 ∷ zeroReplica ∷ zeroReplica ∷ [])
 
 -- "4B530304040301010007000700000007010000000000070100000000000700"

@@ -6,7 +6,7 @@ use native.Mathlib.Omega.{arith}
 use lib.ListN.{length, length-append}
 use Rattle.logic.specs.Concat.{concatBelow, concat-none, concat-more, concat-width, concat-most}
 use Rattle.replica.specs.declared.Replica.{Replica}
-use Rattle.replica.specs.ReplicaBytes.{headWidth, recordWidth, recordBytesAt}
+use Rattle.replica.specs.ReplicaBytes.{headWidth, logRecordWidth, recordBytesAt}
 use Rattle.cluster.specs.declared.State.{State}
 use Rattle.cluster.specs.State.{replicaCount, nextLeaderEpoch, replicaAt}
 use Rattle.cluster.specs.Rules.{rules, LogsBounded}
@@ -14,11 +14,11 @@ use Rattle.cluster.specs.RuleLaws.{rules-bounded, rules-logs-bounded}
 use Rattle.images.specs.Image.{logBytes, requestBytesAt, requestsBytes, replicaBytes, replicaBytesAt, replicasBytes, image, headerWidth, requestWidth}
 
 -- ---- lengths
-log-length : (p : Replica) → length (logBytes p) ≡ p .end * recordWidth
+log-length : (p : Replica) → length (logBytes p) ≡ p .end * logRecordWidth
 unfolding logBytes
-log-length p = concat-width recordWidth (p .end) (recordBytesAt p) (λ x l. refl)
+log-length p = concat-width logRecordWidth (p .end) (recordBytesAt p) (λ x l. refl)
 
-pub replica-length : (p : Replica) → length (replicaBytes p) ≡ headWidth + recordWidth * p .end
+pub replica-length : (p : Replica) → length (replicaBytes p) ≡ headWidth + logRecordWidth * p .end
 unfolding replicaBytes
 replica-length p = let e = log-length p in omega arith
 
@@ -30,12 +30,12 @@ pub image-length : (s : State) → length (image s) ≡ headerWidth + requestWid
 unfolding image
 image-length s = let e = requests-length s in let k = length-append (requestsBytes s) (replicasBytes s) in omega arith
 
--- the bytes of the first i replicas
+-- how many bytes the first i replicas have: none at the start, and those of replica i with each turn
 pub replicas-start : (s : State) → 0 ≡ length (concatBelow 0 (replicaBytesAt s))
 replicas-start s = ap length (sym (concat-none (replicaBytesAt s)))
 
 pub replicas-more : (s : State) (i sum : ℕ) → sum ≡ length (concatBelow i (replicaBytesAt s))
-    → sum + headWidth + recordWidth * replicaAt s i .end ≡ length (concatBelow (i + 1) (replicaBytesAt s))
+    → sum + headWidth + logRecordWidth * replicaAt s i .end ≡ length (concatBelow (i + 1) (replicaBytesAt s))
 replicas-more s i sum h =
     let e = replica-length (replicaAt s i) in
     let k = length-append (concatBelow i (replicaBytesAt s)) (replicaBytesAt s i) in

@@ -1,5 +1,15 @@
 -- A state that meets the rules has one image, which is the image of that state and of no other, and no other bytes are read as
--- that state; equal states are written alike. These go by read-back and read-is-image (RoundTrip). Assumes nothing.
+-- that state; equal states are written alike. All this follows from read-back and read-is-image (RoundTrip). Assumes nothing.
+--
+--   image-iff            two states that meet the rules have one image exactly when they are equal
+--   read-iff-image       bytes are read as a state exactly when they are its image
+--   read-equal-is-image  bytes that are read as a state that is equal to it are its image too
+--   read-tidy            a state that is read is tidy
+--   write-same           equal states get one answer, and leave one buffer
+--   read-written         what is written into a buffer is read back
+--   read-refused-zero    a refused read gives an all-zero state
+--   readNumbers          the numbers that reading may give beside 0
+--   read-listed          it gives no other
 use Prim.Native.Nat.{ℕ, zero, suc, _≤_}
 use mathlib.Core.Path.{_≡_, refl, sym, _∙_, ap}
 use mathlib.Core.Bool.{Bool, true, false, cond}
@@ -76,7 +86,7 @@ read-iff-image s bs h b = (
   (λ e. ap readImage e ∙ read-back s h),
 )
 
--- nor a state that is equal to it
+-- and no other bytes are read as a state that is equal to it
 pub read-equal-is-image : (s t : State) (bs : List ℕ) → Bytes bs → readImage bs ≡ answer accepted t → Same s t → bs ≡ image s
 read-equal-is-image s t bs b e m =
     read-is-image bs t b e ∙ sym (image-same s t (rules-same s t m ∙ read-meets-rules bs t e) m)
@@ -136,7 +146,7 @@ read-refused-zero bs h =
 abbrev pub readNumbers : List ℕ
 readNumbers = stateNumbers ++ wrongMark ∷ tooShort ∷ badConfiguration ∷ leftOver ∷ []
 
--- one rule's number is one of the state's
+-- the number of a broken rule is one of those of a state
 rule-listed : (k : ℕ) → listed (accepted ∷ readNumbers) (ruleRefusal k) ≡ true
 unfolding ruleRefusal listed
 rule-listed zero = refl

@@ -1,5 +1,5 @@
 -- An image is read in two steps: whether all its parts are there and nothing is left over, and then the state of parts that are
--- known to be there. What the functions of each step say. Assumes nothing.
+-- known to be there. Here is what the functions of each step answer. Assumes nothing.
 use Prim.Native.Nat.{ℕ, zero, suc, _+_, _*_}
 use mathlib.Core.List.{List, [], _∷_}
 use lib.ListN.{drop, set, replicate}
@@ -9,7 +9,7 @@ use Rattle.parts.specs.Mark.{byteAt}
 use Rattle.replica.specs.declared.Record.{Record}
 use Rattle.replica.specs.declared.Replica.{Replica}
 use Rattle.replica.specs.Replica.{zeroRecord, zeroReplica, withLog}
-use Rattle.replica.specs.ReplicaBytes.{headWidth, recordWidth, recordOf, endPlace}
+use Rattle.replica.specs.ReplicaBytes.{headWidth, logRecordWidth, recordOf, endPlace}
 use Rattle.cluster.specs.declared.Request.{Request}
 use Rattle.cluster.specs.declared.State.{State}
 use Rattle.cluster.specs.State.{limitsOf, replicaCount, logSize, zeroRequest}
@@ -47,19 +47,19 @@ storedBelow zero f array = array
 storedBelow (suc n) f array = set (storedBelow n f array) n (f n)
 
 -- the first n records, and the first n requests
-abbrev pub recordsOf : ℕ → List ℕ → List Record
-recordsOf n bs = storedBelow n (partAt recordWidth recordOf bs) (replicate 16 zeroRecord)
+abbrev pub logRecordsOf : ℕ → List ℕ → List Record
+logRecordsOf n bs = storedBelow n (partAt logRecordWidth recordOf bs) (replicate 16 zeroRecord)
 
 abbrev pub requestsOf : ℕ → List ℕ → List Request
 requestsOf n bs = storedBelow n (partAt requestWidth requestOf bs) (replicate 16 zeroRequest)
 
 -- a replica has as many bytes as its end says
 abbrev pub replicaLength : List ℕ → ℕ
-replicaLength bs = headWidth + recordWidth * byteAt bs endPlace
+replicaLength bs = headWidth + logRecordWidth * byteAt bs endPlace
 
--- what it says, with its log
+-- the replica that these bytes say, with its log
 abbrev pub replicaWithLog : List ℕ → Replica
-replicaWithLog bs = withLog (replicaOfHead bs) (recordsOf (byteAt bs endPlace) (drop headWidth bs))
+replicaWithLog bs = withLog (replicaOfHead bs) (logRecordsOf (byteAt bs endPlace) (drop headWidth bs))
 
 -- where the replicas start
 abbrev pub replicasPlace : List ℕ → ℕ

@@ -7,7 +7,7 @@ use lib.ListN.{length, replicate}
 use Rattle.logic.specs.Tests.{allBelow, every}
 use Rattle.logic.specs.Table.{table, tableFrom}
 use Rattle.logic.specs.Concat.{concatBelow}
-use Rattle.parts.specs.declared.Leader.the-variants.{Broker}
+use Rattle.parts.specs.declared.Leader.the-variants.{Some}
 use Rattle.parts.specs.Isr.{member, isrBelow, fullIsr}
 use Rattle.parts.specs.Epoch.{sameEpoch, lastEpoch, epochUsed}
 use Rattle.parts.specs.Leader.{names, sameLeader, leaderBelow, leaderInIsr}
@@ -27,17 +27,17 @@ fullRecord : ℕ → Record
 fullRecord x = record { id = x; epoch = pos 15 }
 
 fullReplica : Replica
-fullReplica = replicaOf 16 (pos 15) (Broker 0) 31 16 (table 16 fullRecord)
+fullReplica = replicaOf 16 (pos 15) (Some 0) 31 16 (table 16 fullRecord)
 
 fullRequest : Request
-fullRequest = record { leader = Broker 0; isr = 31 }
+fullRequest = record { leader = Some 0; isr = 31 }
 
 fullLimits : Limits
 fullLimits = record { «replica_count» = 5; «log_size» = 16; «max_records» = 64; «max_leader_epoch» = 15 }
 
 pub fullState : State
 fullState =
-    stateOf fullLimits 16 16 (record { epoch = pos 15; leader = Broker 0; isr = 31 }) (replicate 16 fullRequest) (replicate 5 fullReplica)
+    stateOf fullLimits 16 16 (record { epoch = pos 15; leader = Some 0; isr = 31 }) (replicate 16 fullRequest) (replicate 5 fullReplica)
 
 pub full-meets-rules : rules fullState ≡ true
 unfolding fullRecord fullReplica fullRequest fullLimits fullState table tableFrom allBelow every member isrBelow fullIsr sameEpoch lastEpoch epochUsed names sameLeader leaderBelow leaderInIsr recordInUse logInUse recordsAgree recordAgrees logsAgree between inRange rule1 leaderAndIsrInRange replicaInRange rule2 quorumMatchesRequest rule3 rule4 replicaMatchesRequest replicaMeetsS5 rule5 rule6 agreesWithAll rule7 rules

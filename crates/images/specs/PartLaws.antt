@@ -1,5 +1,5 @@
--- Parts one after the other, there and back: what is written of each is read back into the array, and what is read is what is
--- written of what was read. One induction each way, for records, requests and replicas alike. Assumes nothing.
+-- Parts one after the other, there and back: what is written of each is read back into the array, and the bytes that parts are read
+-- from are those that are written of them. One induction each way, for records, requests and replicas alike. Assumes nothing.
 use Prim.Native.Nat.{ℕ, zero, suc, _≤_, _<_}
 use mathlib.Core.Path.{_≡_, refl, sym, _∙_, ap}
 use mathlib.Core.Bool.{Bool, true, false, cond}
@@ -38,8 +38,8 @@ module _ {A : Type 0} (n : ℕ) (value : List ℕ → A) where
 
 -- ---- written, and read back
 module _ {A : Type 0} (read : List ℕ → Parsed A) (write : ℕ → List ℕ) (value : ℕ → A) (z : A) (size : ℕ) where
-  start : replicate size z ≡ splice size 0 value (λ i. z)
-  start =
+  zeros-splice : replicate size z ≡ splice size 0 value (λ i. z)
+  zeros-splice =
       ext-table z size (λ i. cond (ltb i 0) (value i) z) (replicate size z) (length-replicate size z)
       (λ i b. getD-replicate size i z z b ∙ sym (cond-false (ltb i 0) (value i) z (le-ltb i 0 (omega arith))))
 
@@ -47,7 +47,7 @@ module _ {A : Type 0} (read : List ℕ → Parsed A) (write : ℕ → List ℕ) 
   pub fill-back : (n : ℕ) → n ≤ size → ((i : ℕ) → i < n → (rest : List ℕ) → read (write i ++ rest) ≡ parsed (value i) rest)
       → (rest : List ℕ) → fill read n (replicate size z) (concatBelow n write ++ rest) ≡ parsed (table size (λ i. cond (ltb i n) (value i) z)) rest
   unfolding fill concatBelow
-  fill-back zero h one rest = ap (λ (l : List A). parsed l rest) start
+  fill-back zero h one rest = ap (λ (l : List A). parsed l rest) zeros-splice
   fill-back (suc n) h one rest =
       let before = fill-back n (omega arith) (λ i l. one i (omega arith)) (write n ++ rest) in
       let turn : set (splice size n value (λ i. z)) n (value n) ≡ splice size (suc n) value (λ i. z) =

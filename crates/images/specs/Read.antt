@@ -14,7 +14,7 @@ use Rattle.parts.specs.Mark.{byteAt, marked}
 use Rattle.replica.specs.declared.Record.{Record}
 use Rattle.replica.specs.declared.Replica.{Replica}
 use Rattle.replica.specs.Replica.{replicaOf, zeroRecord, zeroReplica, withLog}
-use Rattle.replica.specs.ReplicaBytes.{headWidth, recordWidth, recordOf}
+use Rattle.replica.specs.ReplicaBytes.{headWidth, logRecordWidth, recordOf}
 use Rattle.cluster.specs.declared.Request.{Request}
 use Rattle.cluster.specs.declared.State.{State}
 use Rattle.cluster.specs.declared.Outcome.{Outcome}
@@ -59,7 +59,7 @@ fillIn put read n array bs = andThen (fill read n array bs) (λ l rest. parsed (
 -- ---- the parts of an image, each as it is written
 -- "(id, epoch) per record"
 abbrev pub readRecord : List ℕ → Parsed Record
-readRecord bs = part recordWidth recordOf bs
+readRecord bs = part logRecordWidth recordOf bs
 
 -- "per request leader, ISR"
 abbrev pub requestOf : List ℕ → Request

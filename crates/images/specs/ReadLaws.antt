@@ -1,5 +1,24 @@
 -- Laws of reading: for the turns of the loops that find out whether the parts of an image are there, and of those that then read
 -- them, and for the ways out. Assumes nothing.
+--
+--   part-back                         a part of n bytes that are there gives its value and the bytes behind it
+--   then-parsed, then-from            what follows a part that gave a value; and where something follows, the part gave a value
+--   parsed-value, parsed-rest         equal readings have equal values, and equal bytes behind them
+--   stored-below-more                 one place more of an array is filled
+--   Filling .. n i pos l              of n parts the first i are read into the array l, and the next one starts at byte pos
+--   filling-start, filling-more       the loop over the parts: its start, and a turn
+--   filling-refused .. filling-all    its ways out: a part is refused, bytes are left over, or all is there
+--   filling-next, filling-whole       where all parts are known to be there: the next one is, and nothing is left behind the last
+--   HeaderInRange bs                  the first ten bytes are there, with the mark and with numbers that meet S1
+--   header-in-range, header-sizes     they are so where they are not refused; S1 as bounds of these numbers
+--   replica-missing .. replica-whole  a replica: its first five bytes missing, its end above L, its log missing, or all there
+--   ReplicaFits l bs at               the replica at this place has all its bytes, and its end is at most l
+--   replica-fits                      it is so where the replica is not refused
+--   body-short .. body-room           what follows the first ten bytes: missing requests, or all of them and then the replicas
+--   layout-header, layout-body        the refusal of an image by its bytes is that of the first ten, then that of the parts
+--   LaidOut bs, laid-out              neither of the two refuses; it is so where the image is not refused by its bytes
+--   read-refused                      an image that is refused by its bytes
+--   read-met, read-unmet              one whose parts are all there: its state, or the number of a state that breaks a rule
 use Prim.Native.Nat.{ℕ, zero, suc, _+_, _*_, _-_, _≤_, _<_}
 use mathlib.Core.Path.{_≡_, refl, sym, _∙_, ap}
 use mathlib.Core.Bool.{true, not, cond}
@@ -18,7 +37,7 @@ use Rattle.parts.specs.Refusal.{accepted, tooShort, leftOver}
 use Rattle.parts.specs.Mark.{byteAt, marked}
 use Rattle.replica.specs.declared.Replica.{Replica}
 use Rattle.replica.specs.Replica.{withLog}
-use Rattle.replica.specs.ReplicaBytes.{headWidth, recordWidth, recordOf}
+use Rattle.replica.specs.ReplicaBytes.{headWidth, logRecordWidth, recordOf}
 use Rattle.cluster.specs.declared.State.{State}
 use Rattle.cluster.specs.State.{limitsOf, zeroRequest, withRequests, withReplicas}
 use Rattle.cluster.specs.Rules.{inRange, rule1, ruleRefusal, stateRefusal}
@@ -28,7 +47,7 @@ use Rattle.images.specs.Image.{markSecond, headerWidth, requestWidth}
 use Rattle.images.specs.Read.{Parsed, missing, endAbove, parsed, refusalOf, andThen, part, fill, fillIn, readRecord, requestOf, readRequest, replicaOfHead, readRequests, readReplicas, headerState, readLog, readLogWithin, readReplica, headerRefusal, finished, readBody, readImage}
 use Rattle.images.specs.Layout.{wholeRefusal, replicasAt, bodyOf, layoutRefusal, partAt, storedBelow, requestsOf, replicaLength, replicaWithLog, replicasPlace}
 
--- ---- a part of n bytes, and at a place
+-- ---- a part of n bytes: at the front of the bytes, and from a place on
 pub part-back : {A : Type 0} (n : ℕ) (value : List ℕ → A) (bs : List ℕ) → n ≤ length bs → part n value bs ≡ parsed (value bs) (drop n bs)
 unfolding part
 part-back n value bs h = cond-true (leb n (length bs)) (parsed (value bs) (drop n bs)) missing (le-leb n (length bs) h)
@@ -86,7 +105,7 @@ module _ {A : Type 0} (w : ℕ) (value : List ℕ → A) (array : List A) (bs : 
       ∙ then-parsed (part w value (drop (w * n) bs)) (λ x left. parsed (set l n x) left) (value (drop (w * n) bs)) (drop (w * n + w) bs)
       (part-read w value bs (w * n) (omega (arith, more))))
 
-  -- where they are not
+  -- where some of them are missing
   fill-short : (n : ℕ) → length bs < w * n → refusalOf (fill (part w value) n array bs) ≡ tooShort
   unfolding fill refusalOf
   fill-short zero h = absurd (omega (arith, mul-zero w))
@@ -123,7 +142,7 @@ module _ {A : Type 0} where
   whole-all x [] h = refl
   whole-all x (b ∷ bs) h = absurd (omega arith)
 
-  -- the other way round
+  -- the other way round: where nothing is refused there is a value, with nothing left over
   whole-parsed : (m : Parsed A) → wholeRefusal m ≡ accepted → (x : A) × (m ≡ parsed x [])
   unfolding wholeRefusal refusalOf
   whole-parsed missing h = absurd (omega arith)
@@ -131,7 +150,7 @@ module _ {A : Type 0} where
   whole-parsed (parsed x (b ∷ bs)) h = absurd (omega arith)
   whole-parsed (parsed x []) h = (x, refl)
 
-  -- it is not the value that decides
+  -- what is made of the value does not count
   whole-put : {B : Type 0} (put : A → B) (m : Parsed A) → wholeRefusal (andThen m (λ x rest. parsed (put x) rest)) ≡ wholeRefusal m
   unfolding wholeRefusal refusalOf andThen
   whole-put put missing = refl
@@ -272,7 +291,7 @@ module _ (l : ℕ) (bs : List ℕ) (at : ℕ) where
   replica-short h k short =
       let p = replicaOfHead (drop at bs) in
       let rest = drop headWidth (drop at bs) in
-      let e = fill-short recordWidth recordOf (p .log) rest (p .end) (rw (length-drop, length-drop) (omega arith)) in
+      let e = fill-short logRecordWidth recordOf (p .log) rest (p .end) (rw (length-drop, length-drop) (omega arith)) in
       sym (ap refusalOf (replica-log h k)
       ∙ then-stops (fill readRecord (p .end) (p .log) rest) (λ l left. parsed (withLog p l) left) (λ z. omega (arith, sym e ∙ z)) ∙ e)
 
@@ -284,10 +303,10 @@ module _ (l : ℕ) (bs : List ℕ) (at : ℕ) where
       let rest = drop headWidth (drop at bs) in
       replica-log (omega arith) k
       ∙ then-parsed (fill readRecord (p .end) (p .log) rest) (λ l left. parsed (withLog p l) left)
-      (storedBelow (p .end) (partAt recordWidth recordOf rest) (p .log)) (drop (recordWidth * p .end) rest)
-      (fill-parts recordWidth recordOf (p .log) rest (p .end) (rw (length-drop, length-drop) (omega arith)))
+      (storedBelow (p .end) (partAt logRecordWidth recordOf rest) (p .log)) (drop (logRecordWidth * p .end) rest)
+      (fill-parts logRecordWidth recordOf (p .log) rest (p .end) (rw (length-drop, length-drop) (omega arith)))
       ∙ ap (parsed (replicaWithLog (drop at bs)))
-      (drop-drop (recordWidth * p .end) headWidth (drop at bs) ∙ drop-drop (replicaLength (drop at bs)) at bs)
+      (drop-drop (logRecordWidth * p .end) headWidth (drop at bs) ∙ drop-drop (replicaLength (drop at bs)) at bs)
 
   -- a replica that is not refused
   pub record ReplicaFits : Type 0 where
@@ -322,7 +341,7 @@ module _ (bs : List ℕ) where
       let m : refusalOf (bodyOf bs) ≡ tooShort = then-stops (readRequests (headerState bs) (drop headerWidth bs)) readReplicas (λ z. omega (arith, sym g ∙ z)) ∙ g in
       sym m ∙ whole-stops (bodyOf bs) (λ z. omega (arith, sym m ∙ z))
 
-  -- they are: the replicas follow
+  -- they are all there, and the replicas follow
   body-requests : replicasPlace bs ≤ length bs
       → bodyOf bs ≡ andThen (replicasAt bs (replicasPlace bs)) (λ l rest. parsed (withReplicas (withRequests (headerState bs) (requestsOf (byteAt bs 6) (drop headerWidth bs))) l) rest)
   unfolding readRequests readReplicas fillIn headerState
@@ -374,7 +393,7 @@ module _ (bs : List ℕ) where
         | no q ↦ absurd (q (layout-header (headerRefusal bs) refl q ∙ h))
       ]
 
-  -- any other is refused
+  -- any other image is refused, with an all-zero state
   finished-by : (m : Parsed State) → (wholeRefusal m ≡ accepted → ⊥) → withZeros (wholeRefusal m) ≡ finished m
   unfolding finished wholeRefusal refusalOf
   finished-by missing h = refl
@@ -393,7 +412,7 @@ module _ (bs : List ℕ) where
             ap withZeros (e ∙ sym (layout-header (headerRefusal bs) refl q)) ∙ by-refused (headerRefusal bs) withZeros (finished (bodyOf bs)) q
       ]
 
-  -- where they are all there, the rules decide
+  -- where all parts are there, the state rules decide
   module _ (s : State) (laid : layoutRefusal bs ≡ accepted) (is : bodyOf bs ≡ parsed s []) where
     read-state : byRefusal (stateRefusal s) withZeros (answer accepted s) ≡ readImage bs
     unfolding readImage readBody finished

@@ -1,4 +1,15 @@
 -- A state that meets the rules has one image: reading it back gives the state, and no other bytes do. Assumes nothing.
+--
+--   record-back .. replica-back         a record, a request and a replica: what is written of each is read back
+--   Writable l p                        what this takes from the rules: an end that fits, epochs and leaders that fit in a byte
+--   image-bytes                         the image of a state that meets the rules is a list of bytes
+--   withZeroArrays s                    the state that the first ten bytes give: s with zeros for its requests and replicas
+--   header-back .. body-back            the first ten bytes, the requests and the replicas of a state are read back
+--   read-back                           the image of a state that meets the rules is read as that state, tidy
+--   record-faithful .. header-faithful  the bytes that a part is read from are those that are written of it
+--   Accepted bs s                       what an accepted reading of bs as s went through
+--   read-meets-rules                    what is read meets the rules
+--   read-is-image                       bytes that are read are the image of what is read
 use Prim.Native.Nat.{ℕ, zero, suc, _^_, _≤_, _<_}
 use mathlib.Core.Path.{_≡_, refl, sym, _∙_, ap, subst}
 use mathlib.Core.Bool.{Bool, true, false, not, cond}
@@ -13,18 +24,18 @@ use Rattle.logic.specs.Refuse.{refuse-none, by-accepted, by-zero}
 use Rattle.logic.specs.Table.{table, tableFrom, cond-true}
 use Rattle.logic.specs.Concat.{concatBelow}
 use Rattle.parts.specs.declared.Leader.{Leader}
-use Rattle.parts.specs.declared.Leader.the-variants.{None, Broker}
+use Rattle.parts.specs.declared.Leader.the-variants.{None, Some}
 use Rattle.parts.specs.Refusal.{accepted, wrongMark, tooShort, badConfiguration}
 use Rattle.parts.specs.IsrLaws.{below-32}
 use Rattle.parts.specs.Epoch.{epochByte, epochOfByte, lastEpoch}
 use Rattle.parts.specs.Leader.{leaderByte, leaderOfByte}
 use Rattle.parts.specs.ByteLaws.{SmallEpoch, SmallLeader, epoch-back, epoch-byte-back, leader-back, leader-byte-back}
-use Rattle.parts.specs.Bytes.{Bytes, bytes-none, bytes-more, bytes-append, bytes-concat, bytes-behind, front}
+use Rattle.parts.specs.Bytes.{Bytes, bytes-none, bytes-more, bytes-append, bytes-concat, bytes-behind, front-and-rest}
 use Rattle.parts.specs.Mark.{byteAt, markFirst, marked}
 use Rattle.replica.specs.declared.Record.{Record}
 use Rattle.replica.specs.declared.Replica.{Replica}
 use Rattle.replica.specs.Replica.{replicaOf, zeroRecord, zeroReplica, noReplica, recordAt, withLog, tidyRecord, tidyReplica}
-use Rattle.replica.specs.ReplicaBytes.{headWidth, recordWidth, recordBytes, recordBytesAt, recordOf}
+use Rattle.replica.specs.ReplicaBytes.{headWidth, logRecordWidth, recordBytes, recordBytesAt, recordOf}
 use Rattle.replica.specs.ReplicaBytesLaws.{SmallReplica}
 use Rattle.cluster.specs.declared.Request.{Request}
 use Rattle.cluster.specs.declared.State.{State}
@@ -45,7 +56,7 @@ use Rattle.images.specs.PartLaws.{part-read-back, fill-back, Faithful, f
 -- ---- written, and read back
 record-back : (r : Record) (rest : List ℕ) → SmallEpoch (r .epoch) → readRecord (recordBytes r ++ rest) ≡ parsed r rest
 record-back r rest h =
-    part-back recordWidth recordOf (recordBytes r ++ rest) (omega arith)
+    part-back logRecordWidth recordOf (recordBytes r ++ rest) (omega arith)
     ∙ ap (λ (z : ℤ). parsed (record { id = r .id; epoch = z }) rest) (epoch-back (r .epoch) h)
 
 request-back : (q : Request) (rest : List ℕ) → SmallLeader (q .leader) → readRequest (requestBytes q ++ rest) ≡ parsed q rest
@@ -99,7 +110,7 @@ epoch-byte-small (negsuc k) h = omega arith
 leader-byte-small : (l : Leader) → SmallLeader l → leaderByte l < 256
 unfolding leaderByte
 leader-byte-small None h = omega arith
-leader-byte-small (Broker b) h = omega (arith, h b refl)
+leader-byte-small (Some b) h = omega (arith, h b refl)
 
 isr-byte-small : (n isr : ℕ) → n ≤ 5 → isr < 2 ^ n → isr < 256
 isr-byte-small n isr h k = omega (arith, below-32 n isr h k)
@@ -151,11 +162,11 @@ image-bytes s h =
 
 -- ---- what its first ten bytes give
 -- the state with zeros for its requests and replicas
-bare : State → State
-bare s = stateOf (s .limits) (nextLeaderEpoch s) (nextRecordId s) (s .quorum) (replicate 16 zeroRequest) (replicate 5 zeroReplica)
+withZeroArrays : State → State
+withZeroArrays s = stateOf (s .limits) (nextLeaderEpoch s) (nextRecordId s) (s .quorum) (replicate 16 zeroRequest) (replicate 5 zeroReplica)
 
-header-back : (s : State) → rules s ≡ true → headerState (image s) ≡ bare s
-unfolding headerState image bare
+header-back : (s : State) → rules s ≡ true → headerState (image s) ≡ withZeroArrays s
+unfolding headerState image withZeroArrays
 header-back s h =
     let r = rules-iff s .0 h in
     ap (λ (l : Leader). stateOf (s .limits) (nextLeaderEpoch s) (nextRecordId s) (record { epoch = lastEpoch (nextLeaderEpoch s); leader = l; isr = s .quorum .isr }) (replicate 16 zeroRequest) (replicate 5 zeroReplica))
@@ -175,30 +186,30 @@ header-accepted s h =
     (refuse-none (not (rule1 (s .limits) (nextLeaderEpoch s) (nextRecordId s))) (ruleRefusal 1) accepted (ap not (tests 0)) refl)))
 
 requests-back : (s : State) (rest : List ℕ) → rules s ≡ true
-    → readRequests (bare s) (requestsBytes s ++ rest) ≡ parsed (withRequests (bare s) (table 16 (tidyRequestAt s))) rest
-unfolding readRequests fillIn requestsBytes bare
+    → readRequests (withZeroArrays s) (requestsBytes s ++ rest) ≡ parsed (withRequests (withZeroArrays s) (table 16 (tidyRequestAt s))) rest
+unfolding readRequests fillIn requestsBytes withZeroArrays
 requests-back s rest h =
     let r = rules-iff s .0 h in
-    then-parsed (fill readRequest (nextLeaderEpoch s) (replicate 16 zeroRequest) (concatBelow (nextLeaderEpoch s) (requestBytesAt s) ++ rest)) (λ l left. parsed (withRequests (bare s) l) left)
+    then-parsed (fill readRequest (nextLeaderEpoch s) (replicate 16 zeroRequest) (concatBelow (nextLeaderEpoch s) (requestBytesAt s) ++ rest)) (λ l left. parsed (withRequests (withZeroArrays s) l) left)
     (table 16 (tidyRequestAt s)) rest
     (fill-back readRequest (requestBytesAt s) (requestAt s) zeroRequest 16 (nextLeaderEpoch s) (rules-bounded s h .requests)
     (λ e k left. request-back (requestAt s e) left (named-small (replicaCount (s .limits)) (requestAt s e .leader) (requestAt s e .isr) (r .s1 .ranges .replicas) (r .s2 .requests e k))) rest)
 
 replicas-back : (s : State) (l : List Request) (rest : List ℕ) → rules s ≡ true
-    → readReplicas (withRequests (bare s) l) (replicasBytes s ++ rest) ≡ parsed (withReplicas (withRequests (bare s) l) (table 5 (tidyReplicaAt s))) rest
-unfolding readReplicas fillIn replicasBytes bare
+    → readReplicas (withRequests (withZeroArrays s) l) (replicasBytes s ++ rest) ≡ parsed (withReplicas (withRequests (withZeroArrays s) l) (table 5 (tidyReplicaAt s))) rest
+unfolding readReplicas fillIn replicasBytes withZeroArrays
 replicas-back s l rest h =
     then-parsed (fill (readReplica (logSize (s .limits))) (replicaCount (s .limits)) (replicate 5 zeroReplica) (concatBelow (replicaCount (s .limits)) (replicaBytesAt s) ++ rest))
-    (λ ps left. parsed (withReplicas (withRequests (bare s) l) ps) left) (table 5 (tidyReplicaAt s)) rest
+    (λ ps left. parsed (withReplicas (withRequests (withZeroArrays s) l) ps) left) (table 5 (tidyReplicaAt s)) rest
     (fill-back (readReplica (logSize (s .limits))) (replicaBytesAt s) (λ i. tidyReplica (replicaAt s i)) zeroReplica 5 (replicaCount (s .limits)) (rules-bounded s h .replicas)
     (λ i k left. replica-back (logSize (s .limits)) (replicaAt s i) left (writable s h i k)) rest)
 
-body-back : (s : State) → rules s ≡ true → andThen (readRequests (bare s) (requestsBytes s ++ replicasBytes s)) readReplicas ≡ parsed (tidy s) []
-unfolding tidy bare
+body-back : (s : State) → rules s ≡ true → andThen (readRequests (withZeroArrays s) (requestsBytes s ++ replicasBytes s)) readReplicas ≡ parsed (tidy s) []
+unfolding tidy withZeroArrays
 body-back s h =
-    then-parsed (readRequests (bare s) (requestsBytes s ++ replicasBytes s)) readReplicas (withRequests (bare s) (table 16 (tidyRequestAt s))) (replicasBytes s)
+    then-parsed (readRequests (withZeroArrays s) (requestsBytes s ++ replicasBytes s)) readReplicas (withRequests (withZeroArrays s) (table 16 (tidyRequestAt s))) (replicasBytes s)
     (requests-back s (replicasBytes s) h)
-    ∙ ap (λ (bs : List ℕ). readReplicas (withRequests (bare s) (table 16 (tidyRequestAt s))) bs) (sym (append-nil (replicasBytes s)))
+    ∙ ap (λ (bs : List ℕ). readReplicas (withRequests (withZeroArrays s) (table 16 (tidyRequestAt s))) bs) (sym (append-nil (replicasBytes s)))
     ∙ replicas-back s (table 16 (tidyRequestAt s)) [] h
 
 -- reading the image of a state that meets the rules gives the state, with zeros in its unused room
@@ -214,17 +225,17 @@ read-back s h =
 record-faithful : Faithful readRecord recordBytes
 unfolding table tableFrom
 record-faithful bs rest x b h =
-    let p = part-read-back recordWidth recordOf bs rest x h in
-    front recordWidth bs (p .long)
-    ∙ ap (λ (e : ℕ). byteAt bs 0 ∷ e ∷ drop recordWidth bs) (sym (epoch-byte-back (byteAt bs 1) (b .byte 1)))
-    ∙ ap (λ (r : Record). recordBytes r ++ drop recordWidth bs) (p .said)
+    let p = part-read-back logRecordWidth recordOf bs rest x h in
+    front-and-rest logRecordWidth bs (p .long)
+    ∙ ap (λ (e : ℕ). byteAt bs 0 ∷ e ∷ drop logRecordWidth bs) (sym (epoch-byte-back (byteAt bs 1) (b .byte 1)))
+    ∙ ap (λ (r : Record). recordBytes r ++ drop logRecordWidth bs) (p .said)
     ∙ ap (λ (l : List ℕ). recordBytes x ++ l) (p .left)
 
 request-faithful : Faithful readRequest requestBytes
 unfolding table tableFrom
 request-faithful bs rest x b h =
     let p = part-read-back requestWidth requestOf bs rest x h in
-    front requestWidth bs (p .long)
+    front-and-rest requestWidth bs (p .long)
     ∙ ap (λ (l : ℕ). l ∷ byteAt bs 1 ∷ drop requestWidth bs) (sym (leader-byte-back (byteAt bs 0)))
     ∙ ap (λ (q : Request). requestBytes q ++ drop requestWidth bs) (p .said)
     ∙ ap (λ (l : List ℕ). requestBytes x ++ l) (p .left)
@@ -233,7 +244,7 @@ head-faithful : Faithful (part headWidth replicaOfHead) replicaHead
 unfolding table tableFrom
 head-faithful bs rest x b h =
     let p = part-read-back headWidth replicaOfHead bs rest x h in
-    front headWidth bs (p .long)
+    front-and-rest headWidth bs (p .long)
     ∙ ap (λ (e : ℕ). byteAt bs 0 ∷ e ∷ byteAt bs 2 ∷ byteAt bs 3 ∷ byteAt bs 4 ∷ drop headWidth bs) (sym (epoch-byte-back (byteAt bs 1) (b .byte 1)))
     ∙ ap (λ (l : ℕ). byteAt bs 0 ∷ epochByte (epochOfByte (byteAt bs 1)) ∷ l ∷ byteAt bs 3 ∷ byteAt bs 4 ∷ drop headWidth bs) (sym (leader-byte-back (byteAt bs 2)))
     ∙ ap (λ (p : Replica). replicaHead p ++ drop headWidth bs) (p .said)
@@ -302,7 +313,7 @@ unfolding headerState marked table tableFrom
 header-faithful bs h =
     let m0 : byteAt bs 0 ≡ markFirst = eqb-true (byteAt bs 0) markFirst (and-left (eqb (byteAt bs 0) markFirst) (eqb (byteAt bs 1) markSecond) (h .mark)) in
     let m1 : byteAt bs 1 ≡ markSecond = eqb-true (byteAt bs 1) markSecond (and-right (eqb (byteAt bs 0) markFirst) (eqb (byteAt bs 1) markSecond) (h .mark)) in
-    front headerWidth bs (h .long)
+    front-and-rest headerWidth bs (h .long)
     ∙ ap (λ (m : ℕ). m ∷ byteAt bs 1 ∷ byteAt bs 2 ∷ byteAt bs 3 ∷ byteAt bs 4 ∷ byteAt bs 5 ∷ byteAt bs 6 ∷ byteAt bs 7 ∷ byteAt bs 8 ∷ byteAt bs 9 ∷ drop headerWidth bs) m0
     ∙ ap (λ (m : ℕ). markFirst ∷ m ∷ byteAt bs 2 ∷ byteAt bs 3 ∷ byteAt bs 4 ∷ byteAt bs 5 ∷ byteAt bs 6 ∷ byteAt bs 7 ∷ byteAt bs 8 ∷ byteAt bs 9 ∷ drop headerWidth bs) m1
     ∙ ap (λ (l : ℕ). markFirst ∷ markSecond ∷ byteAt bs 2 ∷ byteAt bs 3 ∷ byteAt bs 4 ∷ byteAt bs 5 ∷ byteAt bs 6 ∷ byteAt bs 7 ∷ l ∷ byteAt bs 9 ∷ drop headerWidth bs)

@@ -7,11 +7,11 @@ ghost use Prim.Native.Nat.{_+_, _*_, _≤_};
 ghost use lib.ListN.{length, drop};
 ghost use Rattle.parts.specs.Refusal.{accepted};
 ghost use Rattle.parts.specs.Mark.{byteAt};
-ghost use Rattle.replica.specs.ReplicaBytes.{headWidth, recordWidth};
+ghost use Rattle.replica.specs.ReplicaBytes.{headWidth, logRecordWidth};
 ghost use Rattle.cluster.specs.Outcome.{withZeros};
 ghost use Rattle.images.specs.Image.{headerWidth, requestWidth};
 ghost use Rattle.images.specs.Read.{parsed, refusalOf, requestOf, replicaOfHead, readReplica, headerRefusal};
-ghost use Rattle.images.specs.Layout.{wholeRefusal, replicasAt, bodyOf, layoutRefusal, recordsOf, requestsOf, replicaLength, replicaWithLog};
+ghost use Rattle.images.specs.Layout.{wholeRefusal, replicasAt, bodyOf, layoutRefusal, logRecordsOf, requestsOf, replicaLength, replicaWithLog};
 use crate::HEADER_WIDTH;
 use crate::LOG_SIZE_PLACE;
 use crate::MARK_SECOND;
@@ -38,20 +38,20 @@ use replica::Record;
 use replica::Replica;
 use replica::bytes::END_PLACE;
 use replica::bytes::HEAD_WIDTH;
-use replica::bytes::RECORD_WIDTH;
+use replica::bytes::LOG_RECORD_WIDTH;
 use replica::bytes::record_of;
 
 // The first records from a place on, as many as are asked for. The caller shows that the array has room for them and that their
 // bytes are there.
 fn log_of(bytes: &[u8], at: usize, count: usize) -> [Record; 16]
     requires { ⌜ count ≤ 16 ⌝ }
-    requires { ⌜ at + recordWidth * count ≤ length (now bytes) ⌝ }
-    ensures { λ r. ⌜ r ≡ recordsOf count (drop at (now (bytes .entry))) ⌝ }
+    requires { ⌜ at + logRecordWidth * count ≤ length (now bytes) ⌝ }
+    ensures { λ r. ⌜ r ≡ logRecordsOf count (drop at (now (bytes .entry))) ⌝ }
 {
     let mut log = [Record { id: 0, epoch: 0 }; 16];
     let mut x: usize = 0;
     while x < count {
-        let r = record_of(bytes, at + RECORD_WIDTH * x);
+        let r = record_of(bytes, at + LOG_RECORD_WIDTH * x);
         log[x] = r;
         x = x + 1;
     }
@@ -133,7 +133,7 @@ fn replica_refusal(bytes: &[u8], at: usize, log_size: u8) -> u8
     if log_size < end {
         return BROKEN_STATE;
     }
-    if bytes.len() - at < HEAD_WIDTH + RECORD_WIDTH * (end as usize) {
+    if bytes.len() - at < HEAD_WIDTH + LOG_RECORD_WIDTH * (end as usize) {
         return TOO_SHORT;
     }
     ACCEPTED
@@ -155,7 +155,7 @@ fn replicas_refusal(bytes: &[u8], at: usize) -> u8
         if refusal != ACCEPTED {
             return refusal;
         }
-        pos = pos + HEAD_WIDTH + RECORD_WIDTH * (bytes[pos + END_PLACE] as usize);
+        pos = pos + HEAD_WIDTH + LOG_RECORD_WIDTH * (bytes[pos + END_PLACE] as usize);
         i = i + 1;
     }
     if pos < bytes.len() {
@@ -181,7 +181,7 @@ fn replicas_of(bytes: &[u8], at: usize) -> [Replica; 5]
     while i < count {
         let p = replica_of(bytes, pos);
         replicas[i] = p;
-        pos = pos + HEAD_WIDTH + RECORD_WIDTH * (p.end as usize);
+        pos = pos + HEAD_WIDTH + LOG_RECORD_WIDTH * (p.end as usize);
         i = i + 1;
     }
     replicas

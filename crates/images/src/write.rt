@@ -1,5 +1,6 @@
-// The writer: each part is put at a place of the buffer, and the place behind it is answered; before that, the length of all of
-// them. The caller of each function shows that the buffer has room for the part, and that no log or array is read past its end.
+// The writer: each part is put at a place of the buffer, and the place behind it is answered. The length of the image is found
+// before anything is put. The caller of each function shows that the buffer has room for the part, and that no log or array is
+// read past its end.
 ghost use mathlib.Core.Path.{_≡_};
 ghost use mathlib.Core.Bool.{true};
 ghost use Prim.Native.Nat.{_+_, _≤_};
@@ -18,7 +19,7 @@ use parts::bytes::put_bytes;
 use parts::mark;
 use replica::Replica;
 use replica::bytes::HEAD_WIDTH;
-use replica::bytes::RECORD_WIDTH;
+use replica::bytes::LOG_RECORD_WIDTH;
 use replica::bytes::put_head;
 use replica::bytes::put_log;
 
@@ -126,7 +127,7 @@ fn replicas_length(s: State) -> usize
     let mut sum: usize = 0;
     while i < count {
         let p = s.replicas[i];
-        sum = sum + HEAD_WIDTH + RECORD_WIDTH * (p.end as usize);
+        sum = sum + HEAD_WIDTH + LOG_RECORD_WIDTH * (p.end as usize);
         i = i + 1;
     }
     sum

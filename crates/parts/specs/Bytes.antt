@@ -21,11 +21,11 @@ pub bytes-none : Bytes []
 bytes-none = record { byte = λ i. omega arith }
 
 pub bytes-more : (b : ℕ) (bs : List ℕ) → b < 256 → Bytes bs → Bytes (b ∷ bs)
-bytes-more b bs h k = record { byte = at }
+bytes-more b bs h k = record { byte = each-byte }
   where
-    at : (i : ℕ) → byteAt (b ∷ bs) i < 256
-    at zero = h
-    at (suc i) = k .byte i
+    each-byte : (i : ℕ) → byteAt (b ∷ bs) i < 256
+    each-byte zero = h
+    each-byte (suc i) = k .byte i
 
 pub bytes-append : (vs bs : List ℕ) → Bytes vs → Bytes bs → Bytes (vs ++ bs)
 bytes-append [] bs h k = k
@@ -68,5 +68,5 @@ pub front-bytes : (n : ℕ) (bs : List ℕ) → n ≤ length bs → table n (byt
 front-bytes n bs h = sym (ext-table 0 n (byteAt bs) (take n bs) (length-take-le n bs h) (λ i l. getD-take n bs i 0 l))
 
 -- the first n bytes, and those behind them
-pub front : (n : ℕ) (bs : List ℕ) → n ≤ length bs → bs ≡ table n (byteAt bs) ++ drop n bs
-front n bs h = sym (take-append-drop n bs) ∙ ap (λ (l : List ℕ). l ++ drop n bs) (sym (front-bytes n bs h))
+pub front-and-rest : (n : ℕ) (bs : List ℕ) → n ≤ length bs → bs ≡ table n (byteAt bs) ++ drop n bs
+front-and-rest n bs h = sym (take-append-drop n bs) ∙ ap (λ (l : List ℕ). l ++ drop n bs) (sym (front-bytes n bs h))

@@ -1,5 +1,17 @@
 -- The finite behaviours of the published model are the sequences of accepted actions from a fresh state, and each of their
 -- states meets S1 to S7, and so TypeOk. Assumes nothing.
+--
+--   AllAccepted s actions     the actions are accepted one after another, from s
+--   statesAfter s actions     the states that they hand back
+--   MeanAll c us states       the model's states us are the meanings of these states, one by one
+--   MeetsRules c u            u is the meaning of a state of the configuration c that meets S1 to S7
+--   next-is-accepted          the steps of the model are the accepted actions
+--   actions-are-steps         accepted actions are steps of the model
+--   steps-are-actions         steps of the model are accepted actions
+--   sequence-is-behaviour     from the fresh state, the states of accepted actions are a finite behaviour
+--   behaviour-is-sequence     every finite behaviour is, state by state, the meaning of such states
+--   behaviour-meets-rules     each of its states is the meaning of one that meets S1 to S7
+--   behaviour-type-ok         so TypeOk holds of each
 use mathlib.Core.Path.{_≡_, _∙_, ap}
 use mathlib.Core.Bool.{true}
 use mathlib.Core.List.{List, [], _∷_, map}

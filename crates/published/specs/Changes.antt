@@ -1,5 +1,13 @@
--- What an action's change to a state means: one replica put anew, with the next id and the quorum, or a quorum at the next
--- epoch with its request. Assumes nothing.
+-- What an action's change to a state means: a replica replaced, and with it the next id and the quorum; or a quorum at the next
+-- epoch, and its request. Assumes nothing.
+--
+--   except-same, except-other       a function changed at a: its value at a, and elsewhere
+--   Becomes u a p logs states       these logs and local states are those of u but at a, where they are those of the replica p
+--   withChanges u logs states n q   u with these logs and local states, the next id n and the quorum q
+--   put-iff                         v is u so changed exactly where it is the meaning of s with replica a, the next id and the
+--                                   quorum replaced
+--   put-only-iff                    the same where the next id and the quorum stay
+--   controller-iff                  the same of a new quorum at the next epoch, added to the requests
 use Prim.Native.Nat.{ℕ, _+_, _<_}
 use mathlib.Core.Path.{_≡_, refl, sym, _∙_, ap}
 use mathlib.Core.Logic.{_↔_, inl, inr}
@@ -35,7 +43,7 @@ pub except-other : {A : Type 0} (f : ℕ → A) (a : ℕ) (x : A) (r : ℕ) → 
 unfolding except
 except-other f a x r h = cond-false (eqb r a) x (f r) (ne-eqb r a h)
 
--- the state of the model of these variables
+-- the state of the model in which the six variables have these values
 abbrev modelOf : (ℕ → Log) → (ℕ → LocalState) → ℕ → ℕ → (LeaderAndIsr → Type 0) → LeaderAndIsr → ModelState
 modelOf logs states nextId nextEpoch requests quorum =
     record {
@@ -47,7 +55,7 @@ modelOf logs states nextId nextEpoch requests quorum =
       quorumState = quorum;
     }
 
--- v is the meaning of a state exactly where it is equal to any state of the model that is
+-- where n is the meaning of t, v is equal to n exactly where v is the meaning of t too
 means-iff : (c : Limits) (v n : ModelState) (t : State) → Means c n t → SameModelState (constantsOf c) v n ↔ Means c v t
 means-iff c v n t h = (
   (λ e. same-model-trans (constantsOf c) v n (meaning t) e h),

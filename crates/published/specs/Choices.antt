@@ -11,7 +11,7 @@ use Rattle.cluster.specs.Act.{kindOf, uses}
 use Rattle.published.specs.KafkaReplication as Source
 use Rattle.published.specs.KafkaReplication.{Constants, ModelState, LeaderAndIsr, _isIn_, Replicas, minus, ReplicaOpt, ReplicaLog·Offsets, RecordSeq·IdSet}
 
--- the source's action of a kind
+-- the source's action of a kind; that of kind 3 is BecomeFollower, in which the choice of the leader is ours, and the offset the paper's
 abbrev pub SourceAction : Kind → Constants → ModelState → ModelState → Type 0
 SourceAction Kinds.ControllerShrinkIsr k u v = Source.ControllerShrinkIsr k u v
 SourceAction Kinds.ControllerElectLeader k u v = Source.ControllerElectLeader k u v

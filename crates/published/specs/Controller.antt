@@ -1,5 +1,12 @@
 -- Kinds 0 and 1, ControllerShrinkIsr and ControllerElectLeader: the source's action with the replica a as its choice is the
 -- engine's. Assumes nothing.
+--
+--   Updated leader isr      ControllerUpdateIsr leads from u to v with this leader and ISR, and all else is unchanged
+--   updated-iff             Updated holds exactly where an epoch is left and v is the meaning of the engine's updated state
+--   ShrinkStep a            the engine accepts kind 0 of a, and v is the meaning of its next state
+--   controller-shrink-iff   ControllerShrinkIsr of a holds exactly where ShrinkStep does
+--   ElectStep a             the engine accepts kind 1 of a, and v is the meaning of its next state
+--   elect-iff               ControllerElectLeader of a holds exactly where ElectStep does
 use Prim.Native.Nat.{ℕ}
 use mathlib.Core.Path.{_≡_, refl, sym, _∙_}
 use mathlib.Core.Bool.{Bool, true, false}
@@ -8,7 +15,7 @@ use mathlib.Core.Logic.{_↔_, inl, inr}
 use native.Mathlib.Omega.{arith}
 use Rattle.logic.specs.Tests.{refuted-iff}
 use Rattle.parts.specs.declared.Leader.{Leader}
-use Rattle.parts.specs.declared.Leader.the-variants.{None, Broker}
+use Rattle.parts.specs.declared.Leader.the-variants.{None, Some}
 use Rattle.parts.specs.Refusal.{accepted}
 use Rattle.parts.specs.Isr.{member, without, isAlone}
 use Rattle.parts.specs.Leader.{names}
@@ -29,11 +36,11 @@ module _ (s : State) (d : Sound (s .limits) s) (u : ModelState) (m : Means (s .l
   k = constantsOf (s .limits)
 
   -- ---- ControllerUpdateIsr, with all else unchanged
-  abbrev Rest : Type 0
-  Rest = UnchangedNextRecordId k u v × UnchangedReplicaLog k u v × UnchangedReplicaState k u v
+  abbrev RestUnchanged : Type 0
+  RestUnchanged = UnchangedNextRecordId k u v × UnchangedReplicaLog k u v × UnchangedReplicaState k u v
 
   abbrev Updated : Leader → ℕ → Type 0
-  Updated leader isr = ControllerUpdateIsr k u v (leaderOf leader) (member isr) × Rest
+  Updated leader isr = ControllerUpdateIsr k u v (leaderOf leader) (member isr) × RestUnchanged
 
   updated-iff : (leader : Leader) (isr : ℕ) → Updated leader isr ↔ EpochLeft s × Means (s .limits) v (controllerUpdateIsr s leader isr)
   unfolding meaning
@@ -70,7 +77,7 @@ module _ (s : State) (d : Sound (s .limits) s) (u : ModelState) (m : Means (s .l
   abbrev ShrinkStep : ℕ → Type 0
   ShrinkStep a = (controllerShrinkIsrRefusal s a ≡ accepted) × Means (s .limits) v (controllerShrinkIsr s a)
 
-  -- a case of the source: where the effect is this update
+  -- where the engine's effect on a member a is this update, the source's update is the engine's step
   shrink-case : (a : ℕ) (leader : Leader) (isr : ℕ) → member (s .quorum .isr) a ≡ true → controllerShrinkIsr s a ≡ controllerUpdateIsr s leader isr
       → Updated leader isr ↔ ShrinkStep a
   shrink-case a leader isr h e =
@@ -97,10 +104,10 @@ module _ (s : State) (d : Sound (s .limits) s) (u : ModelState) (m : Means (s .l
   unfolding shrinkBy
   leads-others a n h = shrink-case a None (without (s .quorum .isr) a) (leader-member a n) (effect-by a true false n h)
 
-  follows : (a : ℕ) → names (s .quorum .leader) a ≡ false → member (s .quorum .isr) a ≡ true
+  leads-not : (a : ℕ) → names (s .quorum .leader) a ≡ false → member (s .quorum .isr) a ≡ true
       → Updated (s .quorum .leader) (without (s .quorum .isr) a) ↔ ShrinkStep a
   unfolding shrinkBy
-  follows a n h = shrink-case a (s .quorum .leader) (without (s .quorum .isr) a) h (effect-by a false _ n refl)
+  leads-not a n h = shrink-case a (s .quorum .leader) (without (s .quorum .isr) a) h (effect-by a false _ n refl)
 
   module _ (a : ℕ) where
     leads : leaderOf (s .quorum .leader) ≡ some a ↔ names (s .quorum .leader) a ≡ true
@@ -113,13 +120,13 @@ module _ (s : State) (d : Sound (s .limits) s) (u : ModelState) (m : Means (s .l
     shrink-to : ControllerShrinkIsrWith k u v a → ShrinkStep a
     shrink-to t =
         let c = rw (quorum-at s u m) at t in
-        let rest : Rest = (t .1, t .2, t .3) in
+        let rest : RestUnchanged = (t .1, t .2, t .3) in
         elim (c .0) [
           | inl x ↦ leads-alone a (leads .0 (x .0)) (alone .0 (x .1)) .0 (x .2, rest)
           | inr (inl x) ↦
               leads-others a (leads .0 (x .0)) (refuted-iff _ alone .0 (x .1)) .0 (rw (members-without (s .quorum .isr) a) (x .2), rest)
           | inr (inr x) ↦
-              follows a (refuted-iff _ leads .0 (x .0)) (x .1) .0 (rw (members-without (s .quorum .isr) a) (x .2), rest)
+              leads-not a (refuted-iff _ leads .0 (x .0)) (x .1) .0 (rw (members-without (s .quorum .isr) a) (x .2), rest)
         ]
 
     shrink-from : ShrinkStep a → ControllerShrinkIsrWith k u v a
@@ -135,7 +142,7 @@ module _ (s : State) (d : Sound (s .limits) s) (u : ModelState) (m : Means (s .l
             (inr (inl (leads .1 n, refuted-iff _ alone .1 h, w .0)), w .1 .0, w .1 .1, w .1 .2)
         go false y n h =
             let i = controller-shrink-accepted s a (d .rules .s1) .0 (t .0) .0 in
-            let w = follows a n i .1 t in
+            let w = leads-not a n i .1 t in
             rw (quorum-at s u m, ← (members-without (s .quorum .isr) a))
             (inr (inr (refuted-iff _ leads .1 n, i, w .0)), w .1 .0, w .1 .1, w .1 .2)
 
@@ -151,10 +158,10 @@ module _ (s : State) (d : Sound (s .limits) s) (u : ModelState) (m : Means (s .l
   elect-iff a =
       rw (quorum-at s u m) (
         (λ t.
-            let n = updated-iff (Broker a) (s .quorum .isr) .0 (t .1 .1, (t .1 .2, t .1 .3, t .1 .4)) in
+            let n = updated-iff (Some a) (s .quorum .isr) .0 (t .1 .1, (t .1 .2, t .1 .3, t .1 .4)) in
             (elect-accepted s a (d .rules .s1) .1 (t .0, refuted-iff _ (leads a) .0 (t .1 .0), n .0), n .1)),
         (λ t.
             let f = elect-accepted s a (d .rules .s1) .0 (t .0) in
-            let n = updated-iff (Broker a) (s .quorum .isr) .1 (f .2, t .1) in
+            let n = updated-iff (Some a) (s .quorum .isr) .1 (f .2, t .1) in
             (f .0, (refuted-iff _ (leads a) .1 (f .1), n .0, n .1 .0, n .1 .1, n .1 .2))),
       )

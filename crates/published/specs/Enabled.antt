@@ -1,5 +1,15 @@
 -- The source's `\E` over the choices of an action comes to naming them by operands. So Next is the choice of some action, and
 -- a kind has an accepted action exactly where the source's action is enabled. Assumes nothing.
+--
+--   numberOf kind              a number of the kind
+--   kind-of-number             the kind of that number is the given one
+--   RequestsHaveEpochs u       every request of u has an epoch that an operand can name
+--   means-epochs               it holds of every state of the model that is the meaning of a state
+--   source-action-is-choices   the source's action of a kind is that action with the choices that some operands name
+--   next-is-source-action      Next is the source's action of some kind
+--   source-action-is-choice    the source's action of the kind of a number is the Choice of some action with that number
+--   next-is-choice             Next is the Choice of some action
+--   enabled-iff                some action with a number is accepted exactly where the source's action of its kind is enabled
 use Prim.Native.Nat.{ℕ}
 use mathlib.Core.Path.{_≡_, refl, ap}
 use mathlib.Core.Bool.{Bool, true, false}
@@ -20,7 +30,7 @@ use Rattle.published.specs.Choices.{SourceAction, SourceActionWith, Unus
 use Rattle.published.specs.Equality.{same-model-refl}
 use Rattle.published.specs.Engine.{action-is-published}
 
--- ---- a number of each kind; 9 is one of those of no kind
+-- ---- a number of each kind; 9 is one of the numbers that are of no kind
 unfoldable pub numberOf : Kind → ℕ
 numberOf Kinds.ControllerShrinkIsr = 0
 numberOf Kinds.ControllerElectLeader = 1
@@ -150,7 +160,7 @@ module _ (k : Constants) (u v : ModelState) where
   next-is-source-action = (kind-of-next, λ h. next-of-kind (h .0) (h .1))
 
   -- ---- so it is the choice of an action
-  -- the action of a number's kind is an action of that number
+  -- the source's action of a number's kind is the choice of some action with that number
   pub source-action-is-choice : RequestsHaveEpochs u → (n : ℕ)
       → SourceAction (kindOf n) k u v ↔ (a b e : ℕ) × Choice k (actionOf n a b e) u v
   source-action-is-choice epochs n = (

@@ -1,6 +1,14 @@
 -- The engine is the published model: from the meaning of a state that meets S1 to S7 to a state v of the model, the source's
 -- action with the choices that the operands name holds exactly where the engine accepts the action and v is the meaning of
 -- its next state. Assumes nothing.
+--
+--   KindAccepts kind a b e   the replicas that the kind uses are below R, the table does not refuse, and v is the meaning of the
+--                            next state
+--   kind-iff                 on a tidy state, the source's action of a kind with these choices holds exactly where KindAccepts does
+--   action-iff               on a tidy state, Choice of an action holds exactly where the engine accepts it and v is the meaning of
+--                            its next state
+--   engine-is-model          the same on any state that meets S1 to S7, from any state of the model that is its meaning
+--   action-is-published      the same from the meaning of the state itself
 use Prim.Native.Nat.{ℕ, _+_, _<_}
 use mathlib.Core.Path.{_≡_, refl, sym, _∙_, ap}
 use mathlib.Core.Bool.{Bool, true, false, not}
@@ -35,9 +43,9 @@ use Rattle.published.specs.Requests.{become-leader-iff, become-follower-
 use Rattle.published.specs.Logs.{write-iff, replicate-iff}
 use Rattle.published.specs.Leading.{leader-shrink-iff, leader-expand-iff, inc-iff}
 
--- an operand that is not used has no bound
-unused : {A : Type 0} → false ≡ true → A
-unused q = absurd (true-false (sym q))
+-- of an operand that is not used there is no bound to show
+unused-bound : {A : Type 0} → false ≡ true → A
+unused-bound q = absurd (true-false (sym q))
 
 -- ---- a kind with its operands, on a tidy state
 module _ (s : State) (d : Sound (s .limits) s) (u : ModelState) (m : Means (s .limits) u s) (v : ModelState) where
@@ -47,18 +55,18 @@ module _ (s : State) (d : Sound (s .limits) s) (u : ModelState) (m : Means (s .l
   abbrev R : ℕ
   R = replicaCount (s .limits)
 
-  -- what the engine says of a kind and its operands
-  record Accepts (kind : Kind) (a b e : ℕ) : Type 0 where
+  -- the engine accepts a kind with these operands, and v is the meaning of the next state
+  record KindAccepts (kind : Kind) (a b e : ℕ) : Type 0 where
     operands : Operands (s .limits) kind a b
     none-refuses : tableRefusal kind s a b e ≡ accepted
     next : Means (s .limits) v (tableEffect kind s a b e)
 
-  kind-iff : (kind : Kind) (a b e : ℕ) → SourceActionWith kind a b e k u v ↔ Accepts kind a b e
+  kind-iff : (kind : Kind) (a b e : ℕ) → SourceActionWith kind a b e k u v ↔ KindAccepts kind a b e
   unfolding uses tableRefusal tableEffect
   kind-iff ControllerShrinkIsr a b e = (
     (λ t.
         let n = controller-shrink-iff s d u m v a .0 (t .1) in
-        record { operands = record { a-below = λ q. ltb-true a R (t .0); b-below = unused }; none-refuses = n .0; next = n .1 }),
+        record { operands = record { a-below = λ q. ltb-true a R (t .0); b-below = unused-bound }; none-refuses = n .0; next = n .1 }),
     (λ t. (lt-ltb a R (t .operands .a-below refl), controller-shrink-iff s d u m v a .1 (t .none-refuses, t .next))),
   )
   kind-iff ControllerElectLeader a b e = (
@@ -66,25 +74,25 @@ module _ (s : State) (d : Sound (s .limits) s) (u : ModelState) (m : Means (s .l
         let n = elect-iff s d u m v a .0 t in
         let i = elect-accepted s a (d .rules .s1) .0 (n .0) .0 in
         let l = member-within R (s .quorum .isr) (d .rules .s1 .ranges .replicas) (d .rules .s2 .quorum .within) a i in
-        record { operands = record { a-below = λ q. l; b-below = unused }; none-refuses = n .0; next = n .1 }),
+        record { operands = record { a-below = λ q. l; b-below = unused-bound }; none-refuses = n .0; next = n .1 }),
     (λ t. elect-iff s d u m v a .1 (t .none-refuses, t .next)),
   )
   kind-iff BecomeLeader a b e = (
     (λ t.
         let n = become-leader-iff s d u m v e .0 t in
-        record { operands = record { a-below = unused; b-below = unused }; none-refuses = n .0; next = n .1 }),
+        record { operands = record { a-below = unused-bound; b-below = unused-bound }; none-refuses = n .0; next = n .1 }),
     (λ t. become-leader-iff s d u m v e .1 (t .none-refuses, t .next)),
   )
   kind-iff BecomeFollower a b e = (
     (λ t.
         let n = become-follower-iff s d u m v a e .0 t in
-        record { operands = record { a-below = λ q. n .0; b-below = unused }; none-refuses = n .1; next = n .2 }),
+        record { operands = record { a-below = λ q. n .0; b-below = unused-bound }; none-refuses = n .1; next = n .2 }),
     (λ t. become-follower-iff s d u m v a e .1 (t .operands .a-below refl, t .none-refuses, t .next)),
   )
   kind-iff LeaderWrite a b e = (
     (λ t.
         let n = write-iff s d u m v a .0 t in
-        record { operands = record { a-below = λ q. n .0; b-below = unused }; none-refuses = n .1; next = n .2 }),
+        record { operands = record { a-below = λ q. n .0; b-below = unused-bound }; none-refuses = n .1; next = n .2 }),
     (λ t. write-iff s d u m v a .1 (t .operands .a-below refl, t .none-refuses, t .next)),
   )
   kind-iff LeaderShrinkIsr a b e = (
@@ -111,7 +119,7 @@ module _ (s : State) (d : Sound (s .limits) s) (u : ModelState) (m : Means (s .l
     (λ t.
         let l = ltb-true a R (t .2) in
         let n = inc-iff s d u m v a l .0 (t .0, t .1, t .3) in
-        record { operands = record { a-below = λ q. l; b-below = unused }; none-refuses = n .0; next = n .1 }),
+        record { operands = record { a-below = λ q. l; b-below = unused-bound }; none-refuses = n .0; next = n .1 }),
     (λ t.
         let l = t .operands .a-below refl in
         let n = inc-iff s d u m v a l .1 (t .none-refuses, t .next) in
@@ -131,21 +139,21 @@ module _ (s : State) (d : Sound (s .limits) s) (u : ModelState) (m : Means (s .l
   unfolding uses tableRefusal
   epoch-below BecomeLeader a b e h q = omega (arith, become-leader-accepted s e .0 h .0, d .rules .s1 .epochs)
   epoch-below BecomeFollower a b e h q = omega (arith, become-follower-accepted s a e .0 h .0, d .rules .s1 .epochs)
-  epoch-below ControllerShrinkIsr a b e h q = unused q
-  epoch-below ControllerElectLeader a b e h q = unused q
-  epoch-below LeaderWrite a b e h q = unused q
-  epoch-below LeaderShrinkIsr a b e h q = unused q
-  epoch-below LeaderExpandIsr a b e h q = unused q
-  epoch-below LeaderIncHighWatermark a b e h q = unused q
-  epoch-below FollowerReplicate a b e h q = unused q
-  epoch-below Unknown a b e h q = unused q
+  epoch-below ControllerShrinkIsr a b e h q = unused-bound q
+  epoch-below ControllerElectLeader a b e h q = unused-bound q
+  epoch-below LeaderWrite a b e h q = unused-bound q
+  epoch-below LeaderShrinkIsr a b e h q = unused-bound q
+  epoch-below LeaderExpandIsr a b e h q = unused-bound q
+  epoch-below LeaderIncHighWatermark a b e h q = unused-bound q
+  epoch-below FollowerReplicate a b e h q = unused-bound q
+  epoch-below Unknown a b e h q = unused-bound q
 
   module _ (action : Action) where
     abbrev kind : Kind
     kind = kindOf (action .kind)
 
-    -- operands that fit: those used are in range, and no other is given
-    fits-by : Accepts kind (action .a) (action .b) (action .e) → UnusedZero kind (action .a) (action .b) (action .e) → operandsFit (s .limits) action ≡ true
+    -- operands fit where those that are used are in range and the others are 0
+    fits-by : KindAccepts kind (action .a) (action .b) (action .e) → UnusedZero kind (action .a) (action .b) (action .e) → operandsFit (s .limits) action ≡ true
     unfolding operandsFit operandBounds
     fits-by t z =
         let o = t .operands in

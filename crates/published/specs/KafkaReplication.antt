@@ -1,6 +1,36 @@
--- The published model: the source's MODULE KafkaReplication, operator by operator, in its order and under its names. The
--- modules that it brings in are not in it; their operators stand before their first use, in the words of the paper.
--- Nothing of the product is used here.
+-- The published model: the source's MODULE KafkaReplication, operator by operator, in its order and under its names. As the
+-- source has them stand its constants and variables, LogRecords, and all from ReplicaOpt to LeaderInIsr. "Its helper modules for
+-- logs and number sequences, and the module that joins its actions, aren't in the source; for them this paper decides." So there is
+-- no published text to compare these operators with. Where the paper settles one in words, the words stand at it:
+--   of IdSequence            IdSet, TypeOk, Init
+--   of FiniteReplicatedLog   what a log is (Log), Offsets, StartOffset, Init, TypeOk, GetEndOffset, HasOffset
+-- The others neither document defines. They are ours, written to fit the paper's rules, and belong to what a reader must believe:
+--   of IdSequence            NextId
+--   of FiniteReplicatedLog   when two logs are equal (SameLog), HasEntry, Append, TruncateTo, ReplicateTo
+--   of Util                  Min
+--   what joins the actions   the follower's action with its choice of a leader (BecomeFollower), Next, finite behaviours
+-- Nothing of the product is used here. Assumes nothing.
+--
+--   Constants, Replicas k             the four constants; the set of replicas, which are the numbers below replicaCount
+--   LogRecord, Log                    a record of a log, by its id and epoch; a log, by its end and its records
+--   LeaderAndIsr                      epoch, leader and ISR, as the quorum and a request have them
+--   LocalState                        hw, epoch, leader and ISR of a replica
+--   ModelState                        a state of the model: the six variables
+--   SameModelState k u v              u and v are equal
+--   LeaderEpochSeq·.., RecordSeq·..   the numbers that leader epochs and record ids may be; NextId, how the next one is drawn, is ours
+--   LogRecords k r                    the id and the epoch of the record r are such numbers
+--   ReplicaLog·..                     the tests of logs, and their changes (HasEntry, Append, TruncateTo, ReplicateTo are ours)
+--   Min a b                           the smaller of two numbers (ours)
+--   ReplicaOpt .. ReplicaState        the types of a leader, an epoch, the quorum and a replica's state
+--   TypeOk k u, Init k u              every variable has its type; u is a first state
+--   IsTrueLeader u r                  the quorum names r, r is its own leader, and their epochs are equal
+--   ControllerShrinkIsr k u v ..      to FollowerReplicate: the source's actions, from u to v; `..With` is a body over its choices
+--   IsFollowerCaughtUp k u a b n      b follows a and has the offsets before n, as the source tests it
+--   WeakIsr k u, StrongIsr k u        the weak and the strong ISR property; a third property is LeaderInIsr u
+--   BecomeFollower k u v              the follower's action, from u to v (ours)
+--   Next k u v                        one of the nine actions leads from u to v (ours)
+--   Steps k u vs                      each state of vs follows by Next from the one before it, the first from u (ours)
+--   FiniteBehaviour k us              the first state of us is by Init, and each next one by Next (ours)
 --
 -- How the source is written, with u the state before an action and v the state after it:
 --   x, x'                  the variable x of the state before, u .x, and after, v .x
@@ -11,7 +41,6 @@
 --   f[r]                   f r
 --   [f EXCEPT ![r] = x]    except f r x
 --   M!Op                   M·Op
--- Assumes nothing.
 use Prim.Native.Nat.{ℕ, _+_, _-_, _≤_, _<_, min}
 use mathlib.Core.Path.{_≡_}
 use mathlib.Core.Bool.{Bool, true, false, not, _&&_, _||_, cond}
@@ -65,12 +94,13 @@ abbrev pub Nil : ℤ
 Nil = negsuc 0
 
 -- ---- the values of the variables
--- a record of a log
+-- a record of a log: its id, and the epoch of the leader that wrote it
 pub record LogRecord : Type 0 where
   pub id : ℕ
   pub epoch : ℤ
 
--- a log: "A log's end is how many records it holds", and the record at each offset below it
+-- a log, by the paper, because FiniteReplicatedLog is not in the source: "A log's end is how many records it holds", and the record at
+-- each offset below it
 pub record Log : Type 0 where
   pub end : ℕ
   pub entry : ℕ → LogRecord
@@ -110,7 +140,8 @@ pub record ModelState : Type 1 where
   pub leaderAndIsrRequests : LeaderAndIsr → Type 0
   pub quorumState : LeaderAndIsr
 
--- ---- equality of values: functions of a replica are compared at Replicas, logs below their end, sets of requests by members
+-- ---- equality of values: functions of a replica are compared at Replicas, sets of requests by their members
+-- of logs, ours: the ends are compared, and the records below them
 pub record SameLog (x y : Log) : Type 0 where
   pub end : x .end ≡ y .end
   pub entry : (offset : ℕ) → offset < x .end → x .entry offset ≡ y .entry offset
@@ -124,7 +155,7 @@ SameStates k f g = (replica : ℕ) → replica isIn Replicas k → f replica ≡
 abbrev pub SameRequests : (LeaderAndIsr → Type 0) → (LeaderAndIsr → Type 0) → Type 0
 SameRequests x y = (request : LeaderAndIsr) → x request ↔ y request
 
--- two states of the model are equal
+-- two states of the model are equal: each of the six variables is
 pub record SameModelState (k : Constants) (u v : ModelState) : Type 0 where
   pub replicaLog : SameLogs k (u .replicaLog) (v .replicaLog)
   pub replicaState : SameStates k (u .replicaState) (v .replicaState)
@@ -133,20 +164,20 @@ pub record SameModelState (k : Constants) (u v : ModelState) : Type 0 where
   pub leaderAndIsrRequests : SameRequests (u .leaderAndIsrRequests) (v .leaderAndIsrRequests)
   pub quorumState : u .quorumState ≡ v .quorumState
 
--- ---- LeaderEpochSeq and RecordSeq, each an INSTANCE of IdSequence, which is not in the source
--- IdSet: 0 .. MaxId
+-- ---- LeaderEpochSeq and RecordSeq, each an INSTANCE of IdSequence; that module is not in the source
+-- IdSet, by the paper: the numbers 0 to MaxId, so that "Record ids 0 to M-1" and "Leader epochs 0 to X" hold
 abbrev pub IdSet : ℕ → ℕ → Type 0
 IdSet maxId id = id ≤ maxId
 
--- NextId(i): i is next, at most MaxId, next plus 1
+-- NextId(i), ours: i is the next number and at most MaxId, and the next number rises by 1
 abbrev pub NextId : ℕ → ℕ → ℕ → ℕ → Type 0
 NextId maxId nextId nextId′ id = (id ≡ nextId) × (id ≤ maxId) × (nextId′ ≡ nextId + 1)
 
--- TypeOk: next at most MaxId + 1
+-- TypeOk, by the paper: the next number is at most MaxId + 1, as S1 has it: "next epoch at most X+1; next id at most M"
 abbrev pub IdSequence·TypeOk : ℕ → ℕ → Type 0
 IdSequence·TypeOk maxId nextId = nextId ≤ maxId + 1
 
--- Init: "next epoch 0, next id 0"
+-- Init, by the paper: the next number is 0, as in the paper's fresh state: "next epoch 0, next id 0"
 abbrev pub IdSequence·Init : ℕ → Type 0
 IdSequence·Init nextId = nextId ≡ 0
 
@@ -170,19 +201,20 @@ pub record LogRecords (k : Constants) (r : LogRecord) : Type 0 where
   pub id : RecordSeq·IdSet k (r .id)
   pub epoch : (e : ℕ) × (r .epoch ≡ pos e) × LeaderEpochSeq·IdSet k e
 
--- ---- ReplicaLog == INSTANCE FiniteReplicatedLog WITH logs <- replicaLog, which is not in the source
--- Offsets: "Offsets are 0 to L-1"; the first one is StartOffset
+-- ---- ReplicaLog == INSTANCE FiniteReplicatedLog WITH logs <- replicaLog; that module is not in the source
+-- Offsets, by the paper: "Offsets are 0 to L-1"
 abbrev pub ReplicaLog·Offsets : Constants → ℕ → Type 0
 ReplicaLog·Offsets k offset = offset < k .LogSize
 
+-- StartOffset, by the paper: the first offset. The source's Init gives it to every hw, and the paper's fresh state has "each replica hw 0"
 abbrev pub ReplicaLog·StartOffset : ℕ
 ReplicaLog·StartOffset = 0
 
--- Init: "empty log"
+-- Init, by the paper: each replica has an "empty log", as in the paper's fresh state
 abbrev pub ReplicaLog·Init : Constants → ModelState → Type 0
 ReplicaLog·Init k u = (replica : ℕ) → replica isIn Replicas k → u .replicaLog replica .end ≡ ReplicaLog·StartOffset
 
--- TypeOk: "every end at most L", and every record one of LogRecords
+-- TypeOk, by the paper: "every end at most L", as S2 has it; that every record is one of LogRecords is ours
 pub record LogType (k : Constants) (x : Log) : Type 0 where
   pub end : x .end ≤ k .LogSize
   pub entry : (offset : ℕ) → offset < x .end → LogRecords k (x .entry offset)
@@ -190,19 +222,19 @@ pub record LogType (k : Constants) (x : Log) : Type 0 where
 abbrev pub ReplicaLog·TypeOk : Constants → ModelState → Type 0
 ReplicaLog·TypeOk k u = (replica : ℕ) → replica isIn Replicas k → LogType k (u .replicaLog replica)
 
--- GetEndOffset(r): r's end
+-- GetEndOffset(r), by the paper: r's end
 abbrev pub ReplicaLog·GetEndOffset : ModelState → ℕ → ℕ
 ReplicaLog·GetEndOffset u r = u .replicaLog r .end
 
--- HasOffset(r, o): o below r's end
+-- HasOffset(r, o), by the paper: "it has an offset exactly when the offset is below its end"
 abbrev pub ReplicaLog·HasOffset : ModelState → ℕ → ℕ → Type 0
 ReplicaLog·HasOffset u r offset = offset < u .replicaLog r .end
 
--- HasEntry(r, rec, o): HasOffset and that record there
+-- HasEntry(r, rec, o), ours: r has the offset o, and its record there is rec
 abbrev pub ReplicaLog·HasEntry : ModelState → ℕ → LogRecord → ℕ → Type 0
 ReplicaLog·HasEntry u r record′ offset = ReplicaLog·HasOffset u r offset × (u .replicaLog r .entry offset ≡ record′)
 
--- Append(r, rec, o): o in Offsets, o is the end, the record added
+-- Append(r, rec, o), ours: o is one of Offsets and r's end, and rec is added there; the other logs stay
 abbrev pub ReplicaLog·Append : Constants → ModelState → ModelState → ℕ → LogRecord → ℕ → Type 0
 ReplicaLog·Append k u v r record′ offset =
     ReplicaLog·Offsets k offset
@@ -210,18 +242,18 @@ ReplicaLog·Append k u v r record′ offset =
     × SameLogs k (v .replicaLog)
     (except (u .replicaLog) r (record { end = offset + 1; entry = except (u .replicaLog r .entry) offset record′ }))
 
--- TruncateTo(r, n): n at most the end, the end becomes n
+-- TruncateTo(r, n), ours: n is at most r's end, and r's end becomes n; the records before n and the other logs stay
 abbrev pub ReplicaLog·TruncateTo : Constants → ModelState → ModelState → ℕ → ℕ → Type 0
 ReplicaLog·TruncateTo k u v r newEnd =
     (newEnd ≤ ReplicaLog·GetEndOffset u r)
     × SameLogs k (v .replicaLog) (except (u .replicaLog) r (record { end = newEnd; entry = u .replicaLog r .entry }))
 
--- ReplicateTo(l, f): for some rec and o, HasEntry(l, rec, o) and Append(f, rec, o)
+-- ReplicateTo(l, f), ours: for some rec and o, HasEntry(l, rec, o) and Append(f, rec, o)
 abbrev pub ReplicaLog·ReplicateTo : Constants → ModelState → ModelState → ℕ → ℕ → Type 0
 ReplicaLog·ReplicateTo k u v leader follower =
     (record′ : LogRecord) × (offset : ℕ) × ReplicaLog·HasEntry u leader record′ offset × ReplicaLog·Append k u v follower record′ offset
 
--- ---- Min({a, b}), the smaller, of Util, which is not in the source
+-- ---- Min({a, b}), ours: the smaller of the two; the module Util is not in the source
 abbrev pub Min : ℕ → ℕ → ℕ
 Min a b = min a b
 
@@ -252,7 +284,7 @@ pub record ReplicaState (k : Constants) (p : LocalState) : Type 0 where
   pub leader : ReplicaOpt k (p .leader)
   pub isr : SubsetOfReplicas k (p .isr)
 
--- TypeOk
+-- TypeOk: every variable has its type
 pub record TypeOk (k : Constants) (u : ModelState) : Type 0 where
   pub leaderEpochSeq : IdSequence·TypeOk (k .MaxLeaderEpoch) (u .nextLeaderEpoch)
   pub recordSeq : IdSequence·TypeOk (k .MaxRecords - 1) (u .nextRecordId)
@@ -261,7 +293,7 @@ pub record TypeOk (k : Constants) (u : ModelState) : Type 0 where
   pub quorumState : QuorumState k (u .quorumState)
   pub leaderAndIsrRequests : (request : LeaderAndIsr) → u .leaderAndIsrRequests request → QuorumState k request
 
--- Init
+-- Init: the value of every variable in a first state
 pub record Init (k : Constants) (u : ModelState) : Type 0 where
   pub leaderEpochSeq : IdSequence·Init (u .nextLeaderEpoch)
   pub recordSeq : IdSequence·Init (u .nextRecordId)
@@ -280,7 +312,7 @@ ReplicaPresumesLeadership u replica = u .replicaState replica .leader ≡ some r
 abbrev pub ReplicaIsFollowing : ModelState → ℕ → ℕ → Type 0
 ReplicaIsFollowing u follower leader = u .replicaState follower .leader ≡ some leader
 
--- IsTrueLeader(leader)
+-- IsTrueLeader(leader): the quorum names it, it presumes, and its epoch is the quorum's
 abbrev pub IsTrueLeader : ModelState → ℕ → Type 0
 IsTrueLeader u leader =
     (u .quorumState .leader ≡ some leader)
@@ -396,7 +428,7 @@ module _ (k : Constants) (u v : ModelState) where
       × ReplicaLog·Offsets k offset
       × LeaderWriteWith replica id offset
 
-  -- QuorumUpdateLeaderAndIsr(leader, newIsr)
+  -- QuorumUpdateLeaderAndIsr(leader, newIsr): the true leader writes newIsr to the quorum and to its own state
   abbrev pub QuorumUpdateLeaderAndIsr : ℕ → ReplicaSet → Type 0
   QuorumUpdateLeaderAndIsr leader newIsr =
       IsTrueLeader u leader
@@ -405,7 +437,8 @@ module _ (k : Constants) (u v : ModelState) where
       ≡ record { leaderEpoch = u .quorumState .leaderEpoch; leader = u .quorumState .leader; isr = newIsr })
       × SameStates k (v .replicaState) (exceptIsr (u .replicaState) leader newIsr)
 
--- IsFollowerCaughtUp(leader, follower, endOffset)
+-- IsFollowerCaughtUp(leader, follower, endOffset): the follower follows the leader and, unless endOffset is 0, has the offset
+-- before it, at which the leader has a record; which record the follower has there is not asked
 abbrev pub IsFollowerCaughtUp : Constants → ModelState → ℕ → ℕ → ℕ → Type 0
 IsFollowerCaughtUp k u leader follower endOffset =
     ReplicaIsFollowing u follower leader
@@ -540,7 +573,7 @@ WeakIsr k u =
     ⊎ (u .replicaState r1 .hw ≡ 0)
     ⊎ ((r2 offset : ℕ) → r2 isIn u .replicaState r1 .isr → offset < u .replicaState r1 .hw → HaveOneEntry k u r1 r2 offset)
 
--- StrongIsr
+-- StrongIsr: as WeakIsr, with r2 from the quorum's ISR
 abbrev pub StrongIsr : Constants → ModelState → Type 0
 StrongIsr k u =
     (r1 : ℕ) → r1 isIn Replicas k
@@ -552,10 +585,11 @@ StrongIsr k u =
 abbrev pub LeaderInIsr : ModelState → Type 0
 LeaderInIsr u = (leader : ℕ) × (u .quorumState .leader ≡ some leader) × leader isIn u .quorumState .isr
 
--- ---- what joins the actions, which is not in the source
+-- ---- what joins the actions; the module that does is not in the source, and all of this is ours
 module _ (k : Constants) (u v : ModelState) where
-  -- the follower's action: \E leader \in ReplicaOpt, replica \in Replicas :
+  -- the follower's action, ours: \E leader \in ReplicaOpt, replica \in Replicas :
   --     BecomeFollowerAndTruncateTo(leader, replica, replicaState[replica].hw)
+  -- The source leaves leader and offset open; of the offset the paper says "log cut to a's hw"
   abbrev pub BecomeFollower : Type 0
   BecomeFollower =
       (leader : Option ℕ)
@@ -564,7 +598,7 @@ module _ (k : Constants) (u v : ModelState) where
       × replica isIn Replicas k
       × BecomeFollowerAndTruncateTo k u v leader replica (u .replicaState replica .hw)
 
-  -- Next: the disjunction of the nine actions
+  -- Next, ours: the disjunction of the nine actions
   abbrev pub Next : Type 0
   Next =
       ControllerShrinkIsr k u v
@@ -577,12 +611,12 @@ module _ (k : Constants) (u v : ModelState) where
       ⊎ BecomeFollower
       ⊎ FollowerReplicate k u v
 
--- each state of the list follows by Next from the one before it, the first of them from u; there is no stuttering step
+-- ours: each state of the list follows by Next from the one before it, the first of them from u; there is no stuttering step
 abbrev pub Steps : Constants → ModelState → List ModelState → Type 0
 Steps k u [] = Unit {0}
 Steps k u (v ∷ vs) = Next k u v × Steps k v vs
 
--- a finite behaviour: a list of states, the first one by Init, each next one by Next
+-- a finite behaviour, ours: a list of states, the first one by Init, each next one by Next
 abbrev pub FiniteBehaviour : Constants → List ModelState → Type 0
 FiniteBehaviour k [] = ⊥
 FiniteBehaviour k (first ∷ rest) = Init k first × Steps k first rest

@@ -1,5 +1,16 @@
--- Kinds 5, 6 and 7, LeaderShrinkIsr, LeaderExpandIsr and LeaderIncHighWatermark: the source's action with replica a, and b, as
--- its choices is the engine's. Assumes nothing.
+-- Kinds 5, 6 and 7, LeaderShrinkIsr, LeaderExpandIsr and LeaderIncHighWatermark: the source's action with replica a, and in kinds
+-- 5 and 6 also b, as its choices is the engine's. Assumes nothing.
+--
+--   states-with isr     the model's local states, a's with this ISR
+--   update-iff          QuorumUpdateLeaderAndIsr by a, with all else unchanged, holds exactly where a is the true leader and v is
+--                       the meaning of the engine's updated state
+--   leader-shrink-iff   LeaderShrinkIsr of a and b holds exactly where the engine accepts kind 5 and v is the meaning of its
+--                       next state
+--   leader-expand-iff   the same of LeaderExpandIsr and kind 6
+--   AllHave offset      what LeaderIncHighWatermark asks of the members of a's ISR
+--   hw-below-size       where the engine accepts kind 7, a's high watermark is below LogSize, so it is one of Offsets
+--   inc-iff             LeaderIncHighWatermark of a holds exactly where the engine accepts kind 7 and v is the meaning of its
+--                       next state
 use Prim.Native.Nat.{ℕ, _+_, _<_}
 use mathlib.Core.Path.{_≡_, refl, sym, _∙_, ap}
 use mathlib.Core.Bool.{true, false, not}
@@ -7,7 +18,7 @@ use mathlib.Core.Logic.{_↔_, Iff·rfl}
 use native.Mathlib.Omega.{arith}
 use lib.Dec.{eqb}
 use borrow.Author.Tests.{lt-ltb, ltb-true, eqb-false, ne-eqb, not-true}
-use Rattle.logic.specs.Tests.{refuted-iff, allBelow, all-at, all-by, and-left, and-right, and-true, implied, implies}
+use Rattle.logic.specs.Tests.{refuted-iff, allBelow, all-at, all-by, and-left, and-right, and-both, implied, implies}
 use Rattle.parts.specs.Refusal.{accepted}
 use Rattle.parts.specs.Isr.{member, without, including}
 use Rattle.parts.specs.IsrLaws.{member-within}
@@ -48,8 +59,8 @@ module _ (s : State) (d : Sound (s .limits) s) (u : ModelState) (m : Means (s .l
   member-below = member-within R (own .isr) (d .rules .s1 .ranges .replicas) (d .rules .s2 .replicas a l .within)
 
   -- ---- QuorumUpdateLeaderAndIsr, with all else unchanged
-  abbrev Rest : Type 0
-  Rest = UnchangedNextRecordId k u v × UnchangedReplicaLog k u v × UnchangedNextLeaderEpoch k u v × UnchangedRequests k u v
+  abbrev RestUnchanged : Type 0
+  RestUnchanged = UnchangedNextRecordId k u v × UnchangedReplicaLog k u v × UnchangedNextLeaderEpoch k u v × UnchangedRequests k u v
 
   abbrev states-with : ℕ → ℕ → LocalState
   states-with isr = exceptIsr (u .replicaState) a (member isr)
@@ -72,7 +83,7 @@ module _ (s : State) (d : Sound (s .limits) s) (u : ModelState) (m : Means (s .l
   abbrev quorum-with : ℕ → Quorum
   quorum-with isr = record { epoch = s .quorum .epoch; leader = s .quorum .leader; isr = isr }
 
-  update-iff : (isr : ℕ) → QuorumUpdateLeaderAndIsr k u v a (member isr) × Rest
+  update-iff : (isr : ℕ) → QuorumUpdateLeaderAndIsr k u v a (member isr) × RestUnchanged
       ↔ (isTrueLeader s a ≡ true) × Means (s .limits) v (quorumUpdateLeaderAndIsr s a isr)
   unfolding quorumUpdateLeaderAndIsr withQuorumIsr withReplica meaning
   update-iff isr =
@@ -107,7 +118,7 @@ module _ (s : State) (d : Sound (s .limits) s) (u : ModelState) (m : Means (s .l
         and-left (member (own .isr) b) (not (eqb b a)) h,
         (λ q. eqb-false b a (not-true _ (and-right (member (own .isr) b) (not (eqb b a)) h)) (sym q)),
       )),
-      (λ h. and-true (h .0) (ap not (ne-eqb b a (λ q. h .1 (sym q))))),
+      (λ h. and-both (h .0) (ap not (ne-eqb b a (λ q. h .1 (sym q))))),
     )
 
     behind-iff : b < R → (¬ (IsFollowerCaughtUp k u a b (u .replicaLog a .end))) ↔ isFollowerCaughtUp s a b (own .end) ≡ false
@@ -175,7 +186,7 @@ module _ (s : State) (d : Sound (s .limits) s) (u : ModelState) (m : Means (s .l
         other-states = except-other (u .replicaState) a _;
       }
 
-  -- what the source asks of the followers
+  -- what the source asks of the members of a's ISR: each follows a and has the offset
   abbrev AllHave : ℕ → Type 0
   AllHave offset =
       (follower : ℕ) → follower isIn u .replicaState a .isr → ReplicaIsFollowing u follower a × ReplicaLog·HasOffset u follower offset
@@ -190,7 +201,7 @@ module _ (s : State) (d : Sound (s .limits) s) (u : ModelState) (m : Means (s .l
             implies (member (own .isr) i) _
             (λ h.
             let t = f i h in
-            and-true (following-iff s u m i a li .0 (t .0)) (lt-ltb (own .hw) (replicaAt s i .end) (omega (arith, t .1, log-at s u m i li .end)))))),
+            and-both (following-iff s u m i a li .0 (t .0)) (lt-ltb (own .hw) (replicaAt s i .end) (omega (arith, t .1, log-at s u m i li .end)))))),
         (λ e i h.
             let li = member-below i h in
             let t = implied (member (own .isr) i) _ (all-at R (memberHasHw s a) e i li) h in (
@@ -200,8 +211,8 @@ module _ (s : State) (d : Sound (s .limits) s) (u : ModelState) (m : Means (s .l
       )
 
   -- a leads itself, so it is in its own ISR and has the offset of its high watermark: that offset is below LogSize
-  hw-offset : leaderIncHighWatermarkRefusal s a ≡ accepted → own .hw < logSize (s .limits)
-  hw-offset h = omega (arith, own-hw s a l (d .rules .s5 a l .own) h, d .rules .s2 .ends a l)
+  hw-below-size : leaderIncHighWatermarkRefusal s a ≡ accepted → own .hw < logSize (s .limits)
+  hw-below-size h = omega (arith, own-hw s a l (d .rules .s5 a l .own) h, d .rules .s2 .ends a l)
 
   pub inc-iff : ((offset : ℕ) × ReplicaLog·Offsets k offset × LeaderIncHighWatermarkWith k u v offset a)
       ↔ (leaderIncHighWatermarkRefusal s a ≡ accepted) × Means (s .limits) v (leaderIncHighWatermark s a)
@@ -226,7 +237,7 @@ module _ (s : State) (d : Sound (s .limits) s) (u : ModelState) (m : Means (s .l
             let f = advance-accepted s a .0 (t .0) in
             let n = put .1 (t .1) in (
               own .hw,
-              hw-offset (t .0),
+              hw-below-size (t .0),
               (
                 presumes .1 (f .0),
                 sym (hw-at s u m a l),

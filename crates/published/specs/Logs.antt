@@ -1,5 +1,11 @@
--- Kinds 4 and 8, LeaderWrite and FollowerReplicate: the source's action with replica a, and b, as its choices is the engine's.
--- Assumes nothing.
+-- Kinds 4 and 8, LeaderWrite and FollowerReplicate: the source's action with replica a, and in kind 8 also b, as its choices is
+-- the engine's. Assumes nothing.
+--
+--   appended x offset r   the log x of the model with the record r added at its end, `offset`
+--   append-log            it is the log of the replica with that record added
+--   logs-with r offset    the model's logs with the record r added at the end of a's
+--   write-iff             LeaderWrite of a holds exactly where the engine accepts kind 4 and v is the meaning of its next state
+--   replicate-iff         the same of FollowerReplicate, with follower a and leader b, and kind 8
 use Prim.Native.Nat.{ℕ, _+_, _<_, min}
 use mathlib.Core.Path.{_≡_, refl, sym, _∙_, ap}
 use mathlib.Core.Logic.{_↔_}
@@ -82,7 +88,7 @@ module _ (s : State) (d : Sound (s .limits) s) (u : ModelState) (m : Means (s .l
           other-states = λ r n. refl;
         }
 
-    -- so the next state is known by what changes
+    -- v is u with these changes exactly where it is the meaning of the engine's next state
     written-iff : (id offset : ℕ) → id ≡ nextRecordId s → offset ≡ own .end → own .end < logSize (s .limits)
         → SameModelState k v (withChanges u (logs-with (written id) offset) (u .replicaState) (u .nextRecordId + 1) (u .quorumState))
         ↔ Means (s .limits) v (leaderWrite s a)
@@ -160,7 +166,7 @@ module _ (s : State) (d : Sound (s .limits) s) (u : ModelState) (m : Means (s .l
     abbrev replicated : Replica
     replicated = withHw (append own copied) (min (leading .hw) (own .end + 1))
 
-    -- the follower's local state with its new high watermark
+    -- the local states, the follower's with its new high watermark
     abbrev states-with : ℕ → LocalState
     states-with = exceptHw (u .replicaState) a (followerHw u a b)
 

@@ -5,7 +5,7 @@ use mathlib.Core.Path.{_≡_}
 use mathlib.Core.Option.{Option, none, some}
 use lib.IntN.{ℤ, pos}
 use Rattle.parts.specs.declared.Leader.{Leader}
-use Rattle.parts.specs.declared.Leader.the-variants.{None, Broker}
+use Rattle.parts.specs.declared.Leader.the-variants.{None, Some}
 use Rattle.parts.specs.Isr.{member}
 use Rattle.replica.specs.declared.Record.{Record}
 use Rattle.replica.specs.declared.Replica.{Replica}
@@ -22,10 +22,10 @@ abbrev pub constantsOf : Limits → Constants
 constantsOf c =
     record { replicaCount = replicaCount c; LogSize = logSize c; MaxRecords = maxRecords c; MaxLeaderEpoch = maxLeaderEpoch c }
 
--- a leader or none
+-- a leader; None of the source is `none`
 abbrev pub leaderOf : Leader → Option ℕ
 leaderOf None = none
-leaderOf (Broker b) = some b
+leaderOf (Some b) = some b
 
 abbrev pub recordOf : Record → LogRecord
 recordOf r = record { id = r .id; epoch = r .epoch }

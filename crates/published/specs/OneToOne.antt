@@ -1,5 +1,11 @@
 -- The meaning of a state that meets S1 to S7 is that of no other: two such states of one configuration have the same
 -- meaning exactly when they are equal; so a state and its tidy form mean the same. Assumes nothing.
+--
+--   same-means            equal states mean the same
+--   leader-of-injective   leaders that mean the same are equal
+--   record-of-injective   records that mean the same are equal
+--   one-to-one            two states that meet S1 to S7 mean the same exactly when they are equal
+--   means-tidy            a state of the model is the meaning of s exactly where it is that of the tidy form of s
 use Prim.Native.Nat.{ℕ, _<_}
 use mathlib.Core.Path.{_≡_, refl, sym, _∙_, ap}
 use mathlib.Core.Bool.{true}
@@ -9,7 +15,7 @@ use native.Mathlib.Omega.{arith}
 use lib.IntN.{ℤ, pos}
 use borrow.Author.Tests.{lt-ltb, ltb-true}
 use Rattle.parts.specs.declared.Leader.{Leader}
-use Rattle.parts.specs.declared.Leader.the-variants.{None, Broker}
+use Rattle.parts.specs.declared.Leader.the-variants.{None, Some}
 use Rattle.parts.specs.IsrLaws.{below-32}
 use Rattle.parts.specs.EpochLaws.{pos-injective}
 use Rattle.replica.specs.declared.Record.{Record}
@@ -69,9 +75,9 @@ same-means s t h m =
 -- ---- states that mean the same are equal
 pub leader-of-injective : (l m : Leader) → leaderOf l ≡ leaderOf m → l ≡ m
 leader-of-injective None None e = refl
-leader-of-injective None (Broker b) e = absurd (Option·none-ne-some b e)
-leader-of-injective (Broker a) None e = absurd (Option·none-ne-some a (sym e))
-leader-of-injective (Broker a) (Broker b) e = ap Broker (Option·some-injective a b e)
+leader-of-injective None (Some b) e = absurd (Option·none-ne-some b e)
+leader-of-injective (Some a) None e = absurd (Option·none-ne-some a (sym e))
+leader-of-injective (Some a) (Some b) e = ap Some (Option·some-injective a b e)
 
 pub record-of-injective : (r q : Record) → recordOf r ≡ recordOf q → r ≡ q
 record-of-injective r q e = λ i. record { id = e i .id; epoch = e i .epoch }

@@ -7,7 +7,7 @@ use mathlib.Core.Logic.{_↔_, _⊎_, inl, inr, Iff·trans}
 use native.Mathlib.Omega.{arith}
 use borrow.Author.Tests.{lt-ltb, ltb-true}
 use Rattle.logic.specs.Tests.{refuted-iff}
-use Rattle.parts.specs.declared.Leader.the-variants.{Broker}
+use Rattle.parts.specs.declared.Leader.the-variants.{Some}
 use Rattle.parts.specs.Isr.{member}
 use Rattle.parts.specs.Leader.{names}
 use Rattle.parts.specs.LeaderLaws.{names-iff}
@@ -58,7 +58,7 @@ module _ (s : State) (isr : ℕ → ℕ) where
 
   -- what the answer says of it
   abbrev Answered : ℕ → Type 0
-  Answered r = (m offset : ℕ) → replicaAt s r .leader ≡ Broker r → member (isr r) m ≡ true → offset < replicaAt s r .hw
+  Answered r = (m offset : ℕ) → replicaAt s r .leader ≡ Some r → member (isr r) m ≡ true → offset < replicaAt s r .hw
       → HoldSameRecord s r m offset
 
   module _ (h : rules s ≡ true) where
@@ -79,7 +79,7 @@ module _ (s : State) (isr : ℕ → ℕ) where
           let k = member-within (replicaCount (s .limits)) (isr r) five (within r l) m i in
           same-of s r m offset l k (f m offset i o)
 
-      property-iff : ((r m offset : ℕ) → r < replicaCount (s .limits) → replicaAt s r .leader ≡ Broker r → member (isr r) m ≡ true
+      property-iff : ((r m offset : ℕ) → r < replicaCount (s .limits) → replicaAt s r .leader ≡ Some r → member (isr r) m ≡ true
           → offset < replicaAt s r .hw → HoldSameRecord s r m offset)
           ↔ ((r : ℕ) → r isIn Replicas (constantsOf (s .limits)) → Published r)
       property-iff = (

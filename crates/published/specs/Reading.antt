@@ -11,9 +11,9 @@ use lib.Dec.{T}
 use lib.IntN.{pos}
 use lib.Signed.{_<ℤ_}
 use borrow.Author.Tests.{lt-ltb, le-leb, leb-true, not-false}
-use Rattle.logic.specs.Tests.{every-at, every-and, every-none, and-left, and-right, and-true, true-false}
+use Rattle.logic.specs.Tests.{every-at, every-and, every-none, and-left, and-right, and-both, true-false}
 use Rattle.parts.specs.declared.Leader.{Leader}
-use Rattle.parts.specs.declared.Leader.the-variants.{Broker}
+use Rattle.parts.specs.declared.Leader.the-variants.{Some}
 use Rattle.parts.specs.EpochLaws.{higher-is, same-epoch-true, same-epoch-by}
 use Rattle.parts.specs.Leader.{names}
 use Rattle.parts.specs.LeaderLaws.{names-iff}
@@ -30,7 +30,7 @@ use Rattle.published.specs.OneToOne.{leader-of-injective}
 pub leader-names-iff : (l : Leader) (b : ℕ) → leaderOf l ≡ some b ↔ names l b ≡ true
 leader-names-iff l b =
     let n = names-iff l b in
-    ((λ e. n .1 (leader-of-injective l (Broker b) e)), (λ e. ap leaderOf (n .0 e)))
+    ((λ e. n .1 (leader-of-injective l (Some b) e)), (λ e. ap leaderOf (n .0 e)))
 
 true-T : (b : Bool) → T b ↔ b ≡ true
 true-T true = ((λ t. refl), (λ e. tt))
@@ -114,7 +114,7 @@ module _ (s : State) (u : ModelState) (m : Means (s .limits) u s) where
     unfolding isFollowerCaughtUp
     caught-up-at n low = (
       (λ t.
-          and-true (following-iff follower leader lf .0 (t .0)) (le-leb n (replicaAt s follower .end) (caught-up-to n t))),
+          and-both (following-iff follower leader lf .0 (t .0)) (le-leb n (replicaAt s follower .end) (caught-up-to n t))),
       (λ t.
           let e = leb-true n _ (and-right (replicaIsFollowing s follower leader) _ t) in (
             following-iff follower leader lf .1 (and-left (replicaIsFollowing s follower leader) _ t),

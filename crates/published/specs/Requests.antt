@@ -1,5 +1,14 @@
 -- Kinds 2 and 3, BecomeLeader and BecomeFollowerAndTruncateTo: the source's action with the request of epoch e as its choice,
 -- and replica a as the follower, is the engine's. Assumes nothing.
+--
+--   Sent request e        epoch e was used in s, and `request` is its request
+--   LeadStep e            the engine accepts kind 2 with e, and v is the meaning of its next state
+--   become-leader-iff     BecomeLeader with the request of epoch e holds exactly where LeadStep does
+--   Fits leader           where this leader of the request is not none, the truncation offset is at most a's end
+--   FollowStep            the engine accepts kind 3 with a and e, the offset fits, and v is the meaning of its next state
+--   follow-iff            BecomeFollowerAndTruncateTo with any truncation offset holds exactly where FollowStep does
+--   become-follower-iff   with a's high watermark as the offset, it holds exactly where the engine accepts kind 3 and v is the
+--                         meaning of its next state
 use Prim.Native.Nat.{ℕ, _≤_, _<_, min}
 use mathlib.Core.Path.{_≡_, refl, sym, _∙_, ap, subst}
 use mathlib.Core.Bool.{true}
@@ -11,11 +20,11 @@ use borrow.Author.Tests.{lt-ltb, ltb-true}
 use Rattle.logic.specs.Tests.{refuted-iff}
 use Rattle.logic.specs.Refuse.{refuse-zero, refuse-none}
 use Rattle.parts.specs.declared.Leader.{Leader}
-use Rattle.parts.specs.declared.Leader.the-variants.{None, Broker}
+use Rattle.parts.specs.declared.Leader.the-variants.{None, Some}
 use Rattle.parts.specs.Refusal.{accepted}
 use Rattle.parts.specs.Isr.{member}
 use Rattle.parts.specs.EpochLaws.{pos-injective}
-use Rattle.parts.specs.LeaderLaws.{none-broker}
+use Rattle.parts.specs.LeaderLaws.{none-some}
 use Rattle.replica.specs.declared.Replica.{Replica}
 use Rattle.replica.specs.Replica.{tidyReplica}
 use Rattle.replica.specs.ReplicaLaws.{tidy-replica-same}
@@ -63,7 +72,7 @@ module _ (s : State) (d : Sound (s .limits) s) (u : ModelState) (m : Means (s .l
   led b request p = record { hw = p .hw; leaderEpoch = request .leaderEpoch; leader = some b; isr = request .isr }
 
   abbrev leader-after : ℕ → ℕ → Replica
-  leader-after b e = withRequest (replicaAt s b) (pos e) (Broker b) (requestAt s e .isr)
+  leader-after b e = withRequest (replicaAt s b) (pos e) (Some b) (requestAt s e .isr)
 
   abbrev states-led : ℕ → ℕ → ℕ → LocalState
   states-led b e = except (u .replicaState) b (led b (requestSent s e) (u .replicaState b))
@@ -78,7 +87,7 @@ module _ (s : State) (d : Sound (s .limits) s) (u : ModelState) (m : Means (s .l
         other-states = except-other (u .replicaState) b _;
       }
 
-  -- the leader that request e names becomes leader, by that leader
+  -- BecomeLeader with request e, by the leader that the request names
   lead-iff : (e : ℕ) → e < nextLeaderEpoch s → (leader : Leader) → requestAt s e .leader ≡ leader
       → BecomeLeaderWith k u v (requestSent s e) ↔ (leaderRefusal s e leader ≡ accepted) × Means (s .limits) v (leadBy s e leader)
   unfolding leaderRefusal leadBy
@@ -86,7 +95,7 @@ module _ (s : State) (d : Sound (s .limits) s) (u : ModelState) (m : Means (s .l
     (λ t. absurd (Option·none-ne-some (t .0) (sym (ap leaderOf q) ∙ t .1))),
     (λ t. absurd (omega (arith, t .0))),
   )
-  lead-iff e l (Broker b) q =
+  lead-iff e l (Some b) q =
       let low = d .rules .s2 .requests e l .below b q in
       let above = epoch-above-iff s u m b e low in
       let put = put-only-iff s d u m b (leader-after b e) (u .replicaLog) (states-led b e) (leads b e low) v in (
@@ -117,10 +126,11 @@ module _ (s : State) (d : Sound (s .limits) s) (u : ModelState) (m : Means (s .l
             )),
       )
 
-  -- BecomeLeader with the request of epoch e
+  -- the engine accepts kind 2 with e, and v is the meaning of its next state
   abbrev LeadStep : ℕ → Type 0
   LeadStep e = (becomeLeaderRefusal s e ≡ accepted) × Means (s .limits) v (becomeLeader s e)
 
+  -- BecomeLeader with the request of epoch e
   pub become-leader-iff : (e : ℕ)
       → ((request : LeaderAndIsr) × u .leaderAndIsrRequests request × (request .leaderEpoch ≡ pos e) × BecomeLeaderWith k u v request) ↔ LeadStep e
   unfolding becomeLeader
@@ -155,13 +165,13 @@ module _ (s : State) (d : Sound (s .limits) s) (u : ModelState) (m : Means (s .l
     abbrev states-followed : ℕ → LocalState
     states-followed = except (u .replicaState) a (followed (u .replicaState a))
 
-    -- its log cut to the offset, and the logs by the leader of the request
+    -- a's log cut to the offset, and the logs after the action, by the leader of the request
     abbrev cut : Log
     cut = record { end = truncationOffset; entry = u .replicaLog a .entry }
 
     abbrev logs-under : Leader → ℕ → Log
     logs-under None = u .replicaLog
-    logs-under (Broker b) = except (u .replicaLog) a cut
+    logs-under (Some b) = except (u .replicaLog) a cut
 
     -- a log of the model that is cut is that of the replica cut there
     cut-log : truncationOffset ≤ own .end → SameLog cut (logOf (truncateTo own truncationOffset))
@@ -180,16 +190,16 @@ module _ (s : State) (d : Sound (s .limits) s) (u : ModelState) (m : Means (s .l
 
     -- where the request names a leader, the offset is at most a's end
     abbrev Fits : Leader → Type 0
-    Fits leader = (b : ℕ) → leader ≡ Broker b → truncationOffset ≤ own .end
+    Fits leader = (b : ℕ) → leader ≡ Some b → truncationOffset ≤ own .end
 
     follower-log : (leader : Leader) → Fits leader → SameLog (logs-under leader a) (logOf (truncateUnder leader own truncationOffset))
     unfolding truncateUnder
     follower-log None fits = log-at s u m a l
-    follower-log (Broker b) fits = rw (except-same (u .replicaLog) a cut) (cut-log (fits b refl))
+    follower-log (Some b) fits = rw (except-same (u .replicaLog) a cut) (cut-log (fits b refl))
 
     other-log : (leader : Leader) (r : ℕ) → (r ≡ a → ⊥) → logs-under leader r ≡ u .replicaLog r
     other-log None r n = refl
-    other-log (Broker b) r n = except-other (u .replicaLog) a cut r n
+    other-log (Some b) r n = except-other (u .replicaLog) a cut r n
 
     follows : Fits (requestAt s e .leader) → Becomes u a follower-after (logs-under (requestAt s e .leader)) states-followed
     unfolding becomeFollowerAndTruncateTo withRequest withHw
@@ -209,10 +219,10 @@ module _ (s : State) (d : Sound (s .limits) s) (u : ModelState) (m : Means (s .l
 
     log-cases-iff : (leader : Leader) → LogCases leader ↔ Fits leader × SameLogs k (v .replicaLog) (logs-under leader)
     log-cases-iff None = (
-      (λ t. elim t [ inl h ↦ ((λ b q. absurd (none-broker b q)), h .1) | inr h ↦ absurd (h .0 refl) ]),
+      (λ t. elim t [ inl h ↦ ((λ b q. absurd (none-some b q)), h .1) | inr h ↦ absurd (h .0 refl) ]),
       (λ h. inl (refl, h .1)),
     )
-    log-cases-iff (Broker b) = (
+    log-cases-iff (Some b) = (
       (λ t. elim t [
         | inl h ↦ absurd (Option·none-ne-some b (sym (h .0)))
         | inr h ↦ ((λ c q. omega (arith, log-at s u m a l .end, h .1 .0)), h .1 .1)
@@ -223,6 +233,7 @@ module _ (s : State) (d : Sound (s .limits) s) (u : ModelState) (m : Means (s .l
     request-names : leaderOf (requestAt s e .leader) ≡ some a ↔ names (requestAt s e .leader) a ≡ true
     request-names = leader-names-iff (requestAt s e .leader) a
 
+    -- the engine accepts kind 3, the offset fits, and v is the meaning of its next state
     abbrev FollowStep : Type 0
     FollowStep =
         (becomeFollowerRefusal s a e ≡ accepted)

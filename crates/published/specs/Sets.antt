@@ -8,7 +8,7 @@ use native.Mathlib.Omega.{arith}
 use native.Mathlib.Decide.{decLt}
 use lib.Dec.{eqb, ltb}
 use borrow.Author.Tests.{eqb-true, eq-eqb, ne-eqb}
-use Rattle.logic.specs.Tests.{all-at, all-by, and-left, and-right, and-true, bool-ext, implied, implies}
+use Rattle.logic.specs.Tests.{all-at, all-by, and-left, and-right, and-both, bool-ext, implied, implies}
 use Rattle.parts.specs.Isr.{member, fullIsr, isrOf, without, including, noOther, isAlone}
 use Rattle.parts.specs.IsrLaws.{member-none, member-full, member-past, member-below, member-without, member-including, isrOf-member}
 use Rattle.published.specs.KafkaReplication.{ReplicaSet, emptySet, singleton, minus, plus}
@@ -44,7 +44,7 @@ pub members-alone : (isr a : ℕ) → member isr ≡ singleton a ↔ isAlone isr
 unfolding isAlone noOther
 members-alone isr a = (
   (λ e.
-      and-true (ap (λ set. set a) e ∙ eq-eqb a a refl)
+      and-both (ap (λ set. set a) e ∙ eq-eqb a a refl)
       (all-by 5 other (λ i l. implies (member isr i) (eqb i a) (λ m. sym (ap (λ set. set i) e) ∙ m)))),
   (λ h.
       fun-ext

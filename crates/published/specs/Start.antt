@@ -9,7 +9,7 @@ use native.Mathlib.Omega.{arith}
 use lib.IntN.{ℤ, pos}
 use borrow.Author.Tests.{ltb-true}
 use Rattle.parts.specs.declared.Leader.{Leader}
-use Rattle.parts.specs.declared.Leader.the-variants.{None, Broker}
+use Rattle.parts.specs.declared.Leader.the-variants.{None, Some}
 use Rattle.parts.specs.Refusal.{accepted}
 use Rattle.parts.specs.Isr.{member}
 use Rattle.replica.specs.declared.Replica.{Replica}
@@ -77,10 +77,10 @@ fresh-leader-in-no-isr c h m =
     Option·none-ne-some (m .0) (sym (ap (λ (q : LeaderAndIsr). q .leader) (fresh-init c h .quorumState)) ∙ m .1)
 
 -- of a state it says that there is a leader, which is in the quorum's ISR
-pub leader-in-isr-iff : (s : State) → LeaderInIsr (meaning s) ↔ (b : ℕ) × (s .quorum .leader ≡ Broker b) × (member (s .quorum .isr) b ≡ true)
+pub leader-in-isr-iff : (s : State) → LeaderInIsr (meaning s) ↔ (b : ℕ) × (s .quorum .leader ≡ Some b) × (member (s .quorum .isr) b ≡ true)
 unfolding meaning
 leader-in-isr-iff s = (
-  (λ t. (t .0, leader-of-injective (s .quorum .leader) (Broker (t .0)) (t .1), t .2)),
+  (λ t. (t .0, leader-of-injective (s .quorum .leader) (Some (t .0)) (t .1), t .2)),
   (λ t. (t .0, ap leaderOf (t .1), t .2)),
 )
 
@@ -88,10 +88,10 @@ leader-in-isr-iff s = (
 abbrev pub NoneOrInIsr : LeaderAndIsr → Type 0
 NoneOrInIsr q = (q .leader ≡ none) ⊎ ((leader : ℕ) × (q .leader ≡ some leader) × leader isIn q .isr)
 
-none-or-in-isr : (epoch : ℤ) (leader : Leader) (isr : ℕ) → ((b : ℕ) → leader ≡ Broker b → member isr b ≡ true)
+none-or-in-isr : (epoch : ℤ) (leader : Leader) (isr : ℕ) → ((b : ℕ) → leader ≡ Some b → member isr b ≡ true)
     → NoneOrInIsr (leaderAndIsrOf epoch leader isr)
 none-or-in-isr epoch None isr f = inl refl
-none-or-in-isr epoch (Broker b) isr f = inr (b, refl, f b refl)
+none-or-in-isr epoch (Some b) isr f = inr (b, refl, f b refl)
 
 pub leader-none-or-in-isr : (s : State) → rules s ≡ true
     → ((meaning s .quorumState .leader ≡ none) ⊎ LeaderInIsr (meaning s)) × ((request : LeaderAndIsr) → meaning s .leaderAndIsrRequests request → NoneOrInIsr request)

@@ -1,4 +1,12 @@
 -- What TypeOk says of the meaning of a state, in the words of the state rules, and that S1 to S7 give it. Assumes nothing.
+--
+--   leader-opt-iff              ReplicaOpt holds of a leader exactly where it is none or below R
+--   Ranged c epoch leader isr   an epoch from -1 to X, a leader that is none or below R, an ISR with all members below R
+--   TypeOkSays s                what TypeOk says of the state s, field by field
+--   type-ok-iff                 where M is at least 1, TypeOk holds of the meaning of a state exactly where TypeOkSays does
+--   rules-type-ok               TypeOk holds of the meaning of every state that meets S1 to S7
+--   log-record-ok               each record of a log of such a state is one of LogRecords
+--   type-ok-same                TypeOk holds of a state of the model where it holds of an equal one
 use Prim.Native.Nat.{ℕ, _+_, _≤_, _<_}
 use mathlib.Core.Path.{_≡_, refl, sym, _∙_, ap, subst}
 use mathlib.Core.Bool.{true}
@@ -9,11 +17,11 @@ use native.Mathlib.Decide.{decLt}
 use lib.IntN.{ℤ, pos, negsuc}
 use borrow.Author.Tests.{lt-ltb, ltb-true}
 use Rattle.parts.specs.declared.Leader.{Leader}
-use Rattle.parts.specs.declared.Leader.the-variants.{None, Broker}
+use Rattle.parts.specs.declared.Leader.the-variants.{None, Some}
 use Rattle.parts.specs.Isr.{member}
 use Rattle.parts.specs.IsrLaws.{member-within}
 use Rattle.parts.specs.EpochLaws.{pos-injective, negsuc-injective, pos-negsuc, last-used, last-low}
-use Rattle.parts.specs.LeaderLaws.{none-broker, broker-injective}
+use Rattle.parts.specs.LeaderLaws.{none-some, some-injective}
 use Rattle.replica.specs.declared.Record.{Record}
 use Rattle.replica.specs.declared.Replica.{Replica}
 use Rattle.replica.specs.Replica.{recordAt}
@@ -32,14 +40,14 @@ module _ (c : Limits) where
   k = constantsOf c
 
   -- a leader is None, or a replica, exactly where it is none or below R
-  pub leader-opt-iff : (leader : Leader) → ReplicaOpt k (leaderOf leader) ↔ ((b : ℕ) → leader ≡ Broker b → b < replicaCount c)
-  leader-opt-iff None = ((λ t b q. absurd (none-broker b q)), (λ f. inl refl))
-  leader-opt-iff (Broker a) = (
+  pub leader-opt-iff : (leader : Leader) → ReplicaOpt k (leaderOf leader) ↔ ((b : ℕ) → leader ≡ Some b → b < replicaCount c)
+  leader-opt-iff None = ((λ t b q. absurd (none-some b q)), (λ f. inl refl))
+  leader-opt-iff (Some a) = (
     (λ t b q. elim t [
       | inl n ↦ absurd (Option·none-ne-some a (sym n))
       | inr o ↦
           let l : o .0 < replicaCount c = ltb-true (o .0) (replicaCount c) (o .2) in
-          omega (arith, l, Option·some-injective a (o .0) (o .1), broker-injective a b q)
+          omega (arith, l, Option·some-injective a (o .0) (o .1), some-injective a b q)
     ]),
     (λ f. inr (a, refl, lt-ltb a (replicaCount c) (f a refl))),
   )
@@ -84,7 +92,7 @@ module _ (c : Limits) where
   pub record Ranged (epoch : ℤ) (leader : Leader) (isr : ℕ) : Type 0 where
     pub used : (e : ℕ) → epoch ≡ pos e → e < maxLeaderEpoch c + 1
     pub low : (n : ℕ) → epoch ≡ negsuc n → n ≡ 0
-    pub below : (b : ℕ) → leader ≡ Broker b → b < replicaCount c
+    pub below : (b : ℕ) → leader ≡ Some b → b < replicaCount c
     pub members : (r : ℕ) → member isr r ≡ true → r < replicaCount c
 
   quorum-iff : (epoch : ℤ) (leader : Leader) (isr : ℕ) → QuorumState k (leaderAndIsrOf epoch leader isr) ↔ Ranged epoch leader isr
@@ -174,7 +182,7 @@ module _ (s : State) where
     met : Rules s
     met = rules-iff s .0 h
 
-    -- an epoch below the next one, or -1
+    -- an epoch below the next one or -1, with a leader and an ISR within the replicas, is in range
     ranged : (epoch : ℤ) (leader : Leader) (isr : ℕ) → ((e : ℕ) → epoch ≡ pos e → e < nextLeaderEpoch s)
         → ((n : ℕ) → epoch ≡ negsuc n → n ≡ 0) → Named R leader isr → Ranged c epoch leader isr
     ranged epoch leader isr used low named =
@@ -220,7 +228,7 @@ module _ (s : State) where
         record-iff c (recordAt (replicaAt s r) offset) (met .s1 .ranges .records-low) .1
         (rules-say .records r offset (record { replica = l; offset = o }))
 
--- ---- states of the model that are equal have the types of the model alike
+-- ---- of two equal states of the model, TypeOk holds of both or of neither
 log-type-same : (k : Constants) (x y : Log) → SameLog x y → LogType k y → LogType k x
 log-type-same k x y m t =
     record {

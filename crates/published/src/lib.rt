@@ -1,1 +1,1 @@
-// The published model, and the theorem that the engine is that model. All of it is in specs/; there is no code.
+// Definitions of the published model, and theorems that the engine is that model; no code.

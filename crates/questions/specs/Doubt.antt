@@ -6,7 +6,7 @@ use mathlib.Core.Bool.{Bool, true, false, _||_, cond}
 use lib.Dec.{eqb, ltb}
 use Rattle.logic.specs.Tests.{allBelow}
 use Rattle.parts.specs.declared.Leader.{Leader}
-use Rattle.parts.specs.declared.Leader.the-variants.{None, Broker}
+use Rattle.parts.specs.declared.Leader.the-variants.{None, Some}
 use Rattle.parts.specs.Isr.{member, without, including}
 use Rattle.replica.specs.declared.Replica.{Replica}
 use Rattle.replica.specs.Log.{holdSameRecord}
@@ -48,7 +48,7 @@ noDoubt = doubtOf 0 0 0
 -- kind 2: the leader that the request names, against every member
 unfoldable pub ledDoubt : Leader → Doubt
 ledDoubt None = noDoubt
-ledDoubt (Broker b) = doubtOf (only b) 0 0
+ledDoubt (Some b) = doubtOf (only b) 0 0
 
 -- every leader against the members that the quorum's ISR did not have before
 abbrev pub gainedDoubt : ℕ → Doubt
@@ -73,7 +73,7 @@ expandDoubt StrongIsr before a b = gainedDoubt before
 abbrev pub raisedDoubt : State → ℕ → Doubt
 raisedDoubt t a = doubtOf (only a) 0 (replicaAt t a .hw - 1)
 
--- by the quorum's ISR before the action, and the state t after it
+-- what an action of each kind leaves in doubt, by the quorum's ISR before it and the state t after it
 unfoldable pub doubtAfter : Kind → Property → ℕ → State → ℕ → ℕ → ℕ → Doubt
 doubtAfter ControllerShrinkIsr property before t a b e = noDoubt
 doubtAfter ControllerElectLeader property before t a b e = noDoubt
@@ -141,6 +141,6 @@ exposing LeaderIncHighWatermark = true
 exposing FollowerReplicate = false
 exposing Unknown = false
 
--- by its number
+-- the same, by the number of a kind
 abbrev pub exposesMore : ℕ → Bool
 exposesMore kind = exposing (kindOf kind)

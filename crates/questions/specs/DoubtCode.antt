@@ -42,7 +42,7 @@ all-past n i test l h = sym (all-by n test (λ j k. all-at i test h j (omega ari
 
 -- ---- the loops over leaders and members
 module _ (d : Doubt) (property : Property) (s : State) (r : ℕ) where
-  -- so many members are looked at, and so many offsets of r and m
+  -- how many members are looked at for r, and how many offsets of r and m
   abbrev pub membersOf : ℕ
   membersOf = cond (member (d .leaders) r) (cond (names (replicaAt s r .leader) r) (replicaCount (s .limits)) 0) 0
 
@@ -80,14 +80,14 @@ module _ (d : Doubt) (property : Property) (s : State) (r : ℕ) where
       go true false e f k = all-by (replicaCount (s .limits)) (pairAgrees d property s r) (λ i u. rw (e, f) refl)
       go false c e f k = all-by (replicaCount (s .limits)) (pairAgrees d property s r) (λ i u. rw e refl)
 
-  -- a pair that does not agree
+  -- where one pair does not agree, the test fails
   pub pair-fails : r < replicaCount (s .limits) → (m : ℕ) → m < replicaCount (s .limits) → pairAgrees d property s r m ≡ false → false ≡ holdsInDoubt d property s
   unfolding holdsInDoubt leaderAgrees
   pair-fails l m k h =
       all-fails (replicaCount (s .limits)) r (leaderAgrees d property s) l
       (sym (all-fails (replicaCount (s .limits)) m (pairAgrees d property s r) k h))
 
--- nothing is in doubt
+-- where no leader is in doubt, the test holds
 pub no-leader-in-doubt : (d : Doubt) (property : Property) (s : State) → d .leaders ≡ 0 → true ≡ holdsInDoubt d property s
 unfolding holdsInDoubt leaderAgrees pairAgrees offsetsInDoubt allBelow
 no-leader-in-doubt d property s e =

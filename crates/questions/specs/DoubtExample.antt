@@ -4,13 +4,14 @@ use Prim.Native.Nat.{ℕ}
 use mathlib.Core.Path.{_≡_, refl}
 use mathlib.Core.Bool.{true, false}
 use mathlib.Core.List.{[], _∷_}
+use mathlib.Core.Option.{orElse}
 use lib.IntN.{pos}
 use lib.ListN.{replicate, set}
 use Rattle.logic.specs.Tests.{allBelow, every, firstFailing}
 use Rattle.logic.specs.Refuse.{refuse, byRefusal}
-use Rattle.logic.specs.Search.{orElse, firstBelow, passing, firstThird, firstSecond, firstTriple}
+use Rattle.logic.specs.Search.{firstBelow, passing, firstThird, firstSecond, firstTriple}
 use Rattle.parts.specs.Refusal.{accepted}
-use Rattle.parts.specs.declared.Leader.the-variants.{Broker}
+use Rattle.parts.specs.declared.Leader.the-variants.{Some}
 use Rattle.parts.specs.Isr.{member, fullIsr, isrBelow, isrOf, without}
 use Rattle.parts.specs.Epoch.{sameEpoch, lastEpoch, epochUsed}
 use Rattle.parts.specs.Leader.{sameLeader, leaderBelow, leaderInIsr}
@@ -28,14 +29,14 @@ use Rattle.questions.specs.Isr.{isrAsked, offsetsAsked, differAt, smalle
 
 -- a replica of this state: of epoch 0, under leader 0, with the ISR of all three
 abbrev pub ofEpochZero : ℕ → ℕ → Replica
-ofEpochZero hw end = replicaOf hw (pos 0) (Broker 0) 7 end (replicate 16 zeroRecord)
+ofEpochZero hw end = replicaOf hw (pos 0) (Some 0) 7 end (replicate 16 zeroRecord)
 
 -- replica 0 leads with the ISR of all three, and alone has a record and exposes it; the quorum's ISR is 0 alone
 unfoldable pub differingIsrs : State
 differingIsrs =
     stateOf (record { «replica_count» = 3; «log_size» = 1; «max_records» = 1; «max_leader_epoch» = 0 }) 1 1
-    (record { epoch = pos 0; leader = Broker 0; isr = 1 })
-    (set (replicate 16 zeroRequest) 0 (record { leader = Broker 0; isr = 7 }))
+    (record { epoch = pos 0; leader = Some 0; isr = 1 })
+    (set (replicate 16 zeroRequest) 0 (record { leader = Some 0; isr = 7 }))
     (ofEpochZero 1 1 ∷ ofEpochZero 0 0 ∷ ofEpochZero 0 0 ∷ zeroReplica ∷ zeroReplica ∷ [])
 
 -- leader 0 takes replica 1 out of its ISR, and so writes replica 2 into the quorum's

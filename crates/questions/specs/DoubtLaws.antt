@@ -1,5 +1,17 @@
 -- The law of what an accepted action can change, replica by replica and kind by kind, once for weak and strong ISR: where either may
 -- fail after it held, and who may expose more. Assumes nothing.
+--
+--   member-all, member-only                    each of the five replicas is in the set of all five, and a in the set of a alone
+--   Stays p q x                                where p has offset x, q has it too, with the same record
+--   NoMoreExposed p q i                        where q presumes so did p, its high watermark is no higher, and its log stays
+--   Asks property quorum p r m x               p, named r, presumes; m is in the ISR asked about; x is below the hw of p
+--   OnlyInDoubt property d before after p q i  what q asks about that p did not, and where its log is not the same, is in doubt
+--   same-log                                   a log stays as it is
+--   follower-in-doubt                          OnlyInDoubt of every replica after kind 3, whatever offset the log is cut to
+--   kind-in-doubt                              OnlyInDoubt of every replica after an accepted action of any kind
+--   request-kept, hw-raised                    what is read after kinds 2 and 7 is there: request e, and a high watermark above 0
+--   cut-exposed                                NoMoreExposed of every replica after kind 3, whatever the offset
+--   kind-exposed                               NoMoreExposed of every replica after an accepted action of any kind but 2 and 7
 use Prim.Native.Nat.{ℕ, _+_, _-_, _≤_, _<_, min}
 use mathlib.Core.Path.{_≡_, refl, sym, _∙_, ap}
 use mathlib.Core.Bool.{Bool, true, false, not, _&&_, _||_, cond}
@@ -15,11 +27,11 @@ use Rattle.logic.specs.Tests.{and-left, and-no, or-yes, true-false}
 use Rattle.logic.specs.Lists.{each-set}
 use Rattle.parts.specs.Refusal.{accepted}
 use Rattle.parts.specs.declared.Leader.{Leader}
-use Rattle.parts.specs.declared.Leader.the-variants.{None, Broker}
+use Rattle.parts.specs.declared.Leader.the-variants.{None, Some}
 use Rattle.parts.specs.Isr.{member, fullIsr, without, including, isAlone}
 use Rattle.parts.specs.IsrLaws.{member-none, member-full, member-below, member-without, member-including, stays-including}
 use Rattle.parts.specs.Leader.{names}
-use Rattle.parts.specs.LeaderLaws.{names-iff, broker-injective}
+use Rattle.parts.specs.LeaderLaws.{names-iff, some-injective}
 use Rattle.replica.specs.declared.Record.{Record}
 use Rattle.replica.specs.declared.Replica.{Replica}
 use Rattle.replica.specs.Replica.{zeroRecord, noReplica, recordAt, tidyReplica}
@@ -41,7 +53,7 @@ use Rattle.questions.specs.declared.doubt.Doubt.{Doubt}
 use Rattle.questions.specs.IsrLaws.{isrByProperty}
 use Rattle.questions.specs.Doubt.{doubtOf, InDoubt, allFive, only, noDoubt, gainedDoubt, ledDoubt, cutDoubt, shrinkDoubt, expandDoubt, raisedDoubt, doubtAfter, exposing}
 
--- ---- sets
+-- ---- the members of all five, of one alone, and of a set that lost one
 pub member-all : (i : ℕ) → i < 5 → member allFive i ≡ true
 unfolding fullIsr
 member-all i l = member-full 5 i (omega arith) ∙ lt-ltb i 5 l
@@ -59,13 +71,13 @@ Stays p q x = x < p .end → (x < q .end) × (recordAt q x ≡ recordAt p x)
 
 -- q exposes nothing that p did not: where q presumes, p did, its high watermark is no higher, and its log stays
 pub record NoMoreExposed (p q : Replica) (i : ℕ) : Type 0 where
-  pub leads : q .leader ≡ Broker i → p .leader ≡ Broker i
-  pub hw : q .leader ≡ Broker i → q .hw ≤ p .hw
-  pub log : q .leader ≡ Broker i → (x : ℕ) → Stays p q x
+  pub leads : q .leader ≡ Some i → p .leader ≡ Some i
+  pub hw : q .leader ≡ Some i → q .hw ≤ p .hw
+  pub log : q .leader ≡ Some i → (x : ℕ) → Stays p q x
 
 -- replica p, named r, asks about member m at offset x; the quorum has this ISR
 pub record Asks (property : Property) (quorum : ℕ) (p : Replica) (r m x : ℕ) : Type 0 where
-  pub presumes : p .leader ≡ Broker r
+  pub presumes : p .leader ≡ Some r
   pub member : member (isrByProperty property (p .isr) quorum) m ≡ true
   pub offset : x < p .hw
 
@@ -87,7 +99,7 @@ same-exposed : (p : Replica) (i : ℕ) → NoMoreExposed p p i
 same-exposed p i = record { leads = λ q. q; hw = λ q. omega arith; log = λ q. same-log p }
 
 -- a replica that does not presume exposes nothing
-follower-exposed : (p q : Replica) (i : ℕ) → (q .leader ≡ Broker i → ⊥) → NoMoreExposed p q i
+follower-exposed : (p q : Replica) (i : ℕ) → (q .leader ≡ Some i → ⊥) → NoMoreExposed p q i
 follower-exposed p q i other = record { leads = λ e. absurd (other e); hw = λ e. absurd (other e); log = λ e. absurd (other e) }
 
 module _ (property : Property) (d : Doubt) (before after : ℕ) where
@@ -110,7 +122,7 @@ module _ (property : Property) (d : Doubt) (before after : ℕ) where
           )
 
   -- where q does not presume, only its log can bring something new
-  follower-in-doubt-by : (p q : Replica) (i : ℕ) → (q .leader ≡ Broker i → ⊥) → ((x : ℕ) → ((r : ℕ) → r < 5 → InDoubt d r i x) ⊎ Stays p q x)
+  follower-in-doubt-by : (p q : Replica) (i : ℕ) → (q .leader ≡ Some i → ⊥) → ((x : ℕ) → ((r : ℕ) → r < 5 → InDoubt d r i x) ⊎ Stays p q x)
       → OnlyInDoubt property d before after p q i
   follower-in-doubt-by p q i other log = record { asks = λ m x a. absurd (other (a .presumes)); log = log }
 
@@ -118,19 +130,19 @@ module _ (property : Property) (d : Doubt) (before after : ℕ) where
   same-in-doubt p i gains = in-doubt-by p p i (same-exposed p i) gains (λ x. inr (same-log p x))
 
 -- where the quorum's ISR gains no member, none is newly asked about
-fewer : (property : Property) (d : Doubt) (before after : ℕ) → ((m : ℕ) → member after m ≡ true → member before m ≡ true)
+no-member-gained : (property : Property) (d : Doubt) (before after : ℕ) → ((m : ℕ) → member after m ≡ true → member before m ≡ true)
     → (p : Replica) (i : ℕ) → GainsInDoubt property d before after p p i
 unfolding isrByProperty
-fewer WeakIsr d before after f p i m x h = inr h
-fewer StrongIsr d before after f p i m x h = inr (f m h)
+no-member-gained WeakIsr d before after f p i m x h = inr h
+no-member-gained StrongIsr d before after f p i m x h = inr (f m h)
 
 -- a replica that stays, under the same quorum's ISR
-unmoved : (property : Property) (d : Doubt) (quorum : ℕ) (p : Replica) (i : ℕ) → OnlyInDoubt property d quorum quorum p p i
-unmoved property d quorum p i = same-in-doubt property d quorum quorum p i (λ m x h. inr h)
+unchanged-in-doubt : (property : Property) (d : Doubt) (quorum : ℕ) (p : Replica) (i : ℕ) → OnlyInDoubt property d quorum quorum p p i
+unchanged-in-doubt property d quorum p i = same-in-doubt property d quorum quorum p i (λ m x h. inr h)
 
--- the members that the quorum's ISR gained
-gained : (before m i x : ℕ) → i < 5 → InDoubt (gainedDoubt before) i m x ⊎ member before m ≡ true
-gained before m i x l = go (member before m) refl
+-- a member is one that the quorum's ISR gained, and every leader is in doubt about it, or one that it had before
+gained-or-had : (before m i x : ℕ) → i < 5 → InDoubt (gainedDoubt before) i m x ⊎ member before m ≡ true
+gained-or-had before m i x l = go (member before m) refl
   where
     go : (b : Bool) → member before m ≡ b → InDoubt (gainedDoubt before) i m x ⊎ member before m ≡ true
     go true e = inr e
@@ -143,7 +155,7 @@ gained-unless before now b m i x l h = go (eqb (including now b) before) refl
   where
     go : (t : Bool) → eqb (including now b) before ≡ t → InDoubt (cond t noDoubt (gainedDoubt before)) i m x ⊎ member before m ≡ true
     go true e = inr (rw (eqb-true (including now b) before e) at (stays-including now b m h))
-    go false e = gained before m i x l
+    go false e = gained-or-had before m i x l
 
 -- ---- a state that meets the rules, with one replica replaced
 module _ (c : Limits) (s : State) (sound : Sound c s) where
@@ -179,9 +191,9 @@ module _ (c : Limits) (s : State) (sound : Sound c s) where
   shrink-in-doubt : (property : Property) (a : ℕ) (leads alone : Bool) (p : Replica) (i : ℕ)
       → OnlyInDoubt property noDoubt quorumIsr (shrinkBy leads alone s a .quorum .isr) p p i
   unfolding shrinkBy controllerUpdateIsr
-  shrink-in-doubt property a true true p i = unmoved property noDoubt quorumIsr p i
-  shrink-in-doubt property a true false p i = same-in-doubt property noDoubt quorumIsr (without quorumIsr a) p i (fewer property noDoubt quorumIsr (without quorumIsr a) (removed a) p i)
-  shrink-in-doubt property a false alone p i = same-in-doubt property noDoubt quorumIsr (without quorumIsr a) p i (fewer property noDoubt quorumIsr (without quorumIsr a) (removed a) p i)
+  shrink-in-doubt property a true true p i = unchanged-in-doubt property noDoubt quorumIsr p i
+  shrink-in-doubt property a true false p i = same-in-doubt property noDoubt quorumIsr (without quorumIsr a) p i (no-member-gained property noDoubt quorumIsr (without quorumIsr a) (removed a) p i)
+  shrink-in-doubt property a false alone p i = same-in-doubt property noDoubt quorumIsr (without quorumIsr a) p i (no-member-gained property noDoubt quorumIsr (without quorumIsr a) (removed a) p i)
 
   shrink-replicas : (a : ℕ) (leads alone : Bool) → shrinkBy leads alone s a .replicas ≡ s .replicas
   unfolding shrinkBy controllerUpdateIsr
@@ -190,15 +202,15 @@ module _ (c : Limits) (s : State) (sound : Sound c s) where
   shrink-replicas a false alone = refl
 
   -- ---- kind 2: all that the new leader asks about is in doubt
-  lead-in-doubt : (property : Property) (e : ℕ) (leader : Leader) → requestAt s e .leader ≡ leader → ((b : ℕ) → leader ≡ Broker b → b < R)
+  lead-in-doubt : (property : Property) (e : ℕ) (leader : Leader) → requestAt s e .leader ≡ leader → ((b : ℕ) → leader ≡ Some b → b < R)
       → (i : ℕ) → i < R
       → OnlyInDoubt property (ledDoubt (requestAt (leadBy s e leader) e .leader)) quorumIsr (leadBy s e leader .quorum .isr) (replicaAt s i) (replicaAt (leadBy s e leader) i) i
   unfolding leadBy withReplica ledDoubt withRequest
-  lead-in-doubt property e None q low i l = unmoved property _ quorumIsr (replicaAt s i) i
-  lead-in-doubt property e (Broker b) q low i l =
-      put-each (OnlyInDoubt property (ledDoubt (requestAt s e .leader)) quorumIsr quorumIsr) b _ (rw q own) (λ j k. unmoved property _ quorumIsr (replicaAt s j) j) i l
+  lead-in-doubt property e None q low i l = unchanged-in-doubt property _ quorumIsr (replicaAt s i) i
+  lead-in-doubt property e (Some b) q low i l =
+      put-each (OnlyInDoubt property (ledDoubt (requestAt s e .leader)) quorumIsr quorumIsr) b _ (rw q own) (λ j k. unchanged-in-doubt property _ quorumIsr (replicaAt s j) j) i l
     where
-      own : OnlyInDoubt property (ledDoubt (Broker b)) quorumIsr quorumIsr (replicaAt s b) (withRequest (replicaAt s b) (pos e) (Broker b) (requestAt s e .isr)) b
+      own : OnlyInDoubt property (ledDoubt (Some b)) quorumIsr quorumIsr (replicaAt s b) (withRequest (replicaAt s b) (pos e) (Some b) (requestAt s e .isr)) b
       own =
           record {
             asks = λ m x a. inl (record { leader = member-only b (below-five b (low b refl)); unknown = member-none m; from = omega arith });
@@ -207,7 +219,7 @@ module _ (c : Limits) (s : State) (sound : Sound c s) where
 
   -- ---- kind 3: a does not presume, and its log is cut, whatever the offset
   follows-other : (a e offset : ℕ) → names (requestAt s e .leader) a ≡ false
-      → becomeFollowerAndTruncateTo (replicaAt s a) (pos e) (requestAt s e .leader) (requestAt s e .isr) offset .leader ≡ Broker a → ⊥
+      → becomeFollowerAndTruncateTo (replicaAt s a) (pos e) (requestAt s e .leader) (requestAt s e .isr) offset .leader ≡ Some a → ⊥
   unfolding becomeFollowerAndTruncateTo withRequest
   follows-other a e offset other q = true-false (sym (names-iff (requestAt s e .leader) a .1 q) ∙ other)
 
@@ -215,7 +227,7 @@ module _ (c : Limits) (s : State) (sound : Sound c s) where
       → becomeFollowerAndTruncateTo p epoch leader isr offset .end ≤ x ⊎ Stays p (becomeFollowerAndTruncateTo p epoch leader isr offset) x
   unfolding becomeFollowerAndTruncateTo truncateUnder truncateTo withRequest withHw withEnd tidyReplica
   follower-log p epoch None isr offset small x = inr (same-log p x)
-  follower-log p epoch (Broker b) isr offset small x =
+  follower-log p epoch (Some b) isr offset small x =
       elim (decLt x (min offset (p .end))) [
         | yes l ↦ inr (λ k. (l, tidy-replica-same (withEnd p (min offset (p .end))) .log x (omega arith) l))
         | no l ↦ inl (omega arith)
@@ -227,7 +239,7 @@ module _ (c : Limits) (s : State) (sound : Sound c s) where
   follower-in-doubt property a e offset l other =
       put-each (OnlyInDoubt property d quorumIsr quorumIsr) a q
       (follower-in-doubt-by property d quorumIsr quorumIsr (replicaAt s a) q a (follows-other a e offset other) (λ x. cut-from x (follower-log (replicaAt s a) _ _ _ offset small x)))
-      (λ j k. unmoved property d quorumIsr (replicaAt s j) j)
+      (λ j k. unchanged-in-doubt property d quorumIsr (replicaAt s j) j)
     where
       q : Replica
       q = becomeFollowerAndTruncateTo (replicaAt s a) (pos e) (requestAt s e .leader) (requestAt s e .isr) offset
@@ -286,18 +298,18 @@ module _ (c : Limits) (s : State) (sound : Sound c s) where
           → InDoubt (doubtOf (only a) (without allFive b) 0) a m x ⊎ member (replicaAt s a .isr) m ≡ true
       go true e k = inr e
       go false e k = inl (record { leader = member-only a (below-five a l); unknown = rw (eqb-true m b k) (member-removed allFive b); from = omega arith })
-  join-own StrongIsr a b l m x h = gained quorumIsr m a x (below-five a l)
+  join-own StrongIsr a b l m x h = gained-or-had quorumIsr m a x (below-five a l)
 
   join-others : (property : Property) (a b isr i : ℕ) → i < R → GainsInDoubt property (expandDoubt property quorumIsr a b) quorumIsr isr (replicaAt s i) (replicaAt s i) i
   unfolding isrByProperty expandDoubt
   join-others WeakIsr a b isr i l m x h = inr h
-  join-others StrongIsr a b isr i l m x h = gained quorumIsr m i x (below-five i l)
+  join-others StrongIsr a b isr i l m x h = gained-or-had quorumIsr m i x (below-five i l)
 
   -- ---- kind 7: a asks about one offset more
   raise-in-doubt : (property : Property) (a : ℕ) → a < R → (i : ℕ) → i < R
       → OnlyInDoubt property (raisedDoubt (leaderIncHighWatermark s a) a) quorumIsr (leaderIncHighWatermark s a .quorum .isr) (replicaAt s i) (replicaAt (leaderIncHighWatermark s a) i) i
   unfolding leaderIncHighWatermark withReplica withHw
-  raise-in-doubt property a l = put-each (OnlyInDoubt property d quorumIsr quorumIsr) a q own (λ j k. unmoved property d quorumIsr (replicaAt s j) j)
+  raise-in-doubt property a l = put-each (OnlyInDoubt property d quorumIsr quorumIsr) a q own (λ j k. unchanged-in-doubt property d quorumIsr (replicaAt s j) j)
     where
       q : Replica
       q = withHw (replicaAt s a) (replicaAt s a .hw + 1)
@@ -319,11 +331,11 @@ module _ (c : Limits) (s : State) (sound : Sound c s) where
           }
 
   -- ---- kind 8: a follows b, and its log has a record more
-  replicates-other : (a b : ℕ) → followerReplicateRefusal s a b ≡ accepted → replicaAt s a .leader ≡ Broker a → ⊥
+  replicates-other : (a b : ℕ) → followerReplicateRefusal s a b ≡ accepted → replicaAt s a .leader ≡ Some a → ⊥
   unfolding replicaIsFollowing
   replicates-other a b h q =
       let f = replicate-accepted s a b .0 h in
-      let same : b ≡ a = broker-injective b a (sym (names-iff (replicaAt s a .leader) b .0 (f .follows)) ∙ q) in
+      let same : b ≡ a = some-injective b a (sym (names-iff (replicaAt s a .leader) b .0 (f .follows)) ∙ q) in
       let behind : replicaAt s b .end < replicaAt s b .end = rw (← same) at (f .behind) in
       omega arith
 
@@ -336,7 +348,7 @@ module _ (c : Limits) (s : State) (sound : Sound c s) where
   kind-in-doubt ControllerShrinkIsr a b e o h property i l =
       rw (shrink-replicas a (names (s .quorum .leader) a) (isAlone quorumIsr a))
       (shrink-in-doubt property a (names (s .quorum .leader) a) (isAlone quorumIsr a) (replicaAt s i) i)
-  kind-in-doubt ControllerElectLeader a b e o h property i l = unmoved property noDoubt quorumIsr (replicaAt s i) i
+  kind-in-doubt ControllerElectLeader a b e o h property i l = unchanged-in-doubt property noDoubt quorumIsr (replicaAt s i) i
   kind-in-doubt BecomeLeader a b e o h property i l =
       lead-in-doubt property e (requestAt s e .leader) refl (met .s2 .requests e (become-leader-accepted s e .0 h .0) .below) i l
   kind-in-doubt BecomeFollower a b e o h property i l =
@@ -344,7 +356,7 @@ module _ (c : Limits) (s : State) (sound : Sound c s) where
   kind-in-doubt LeaderWrite a b e o h property i l =
       put-each (OnlyInDoubt property noDoubt quorumIsr quorumIsr) a _
       (in-doubt-by property noDoubt quorumIsr quorumIsr _ _ a (write-exposed a _) (λ m x k. inr k) (λ x. inr (longer-log (replicaAt s a) _ x)))
-      (λ j k. unmoved property noDoubt quorumIsr (replicaAt s j) j) i l
+      (λ j k. unchanged-in-doubt property noDoubt quorumIsr (replicaAt s j) j) i l
   kind-in-doubt LeaderShrinkIsr a b e o h property i l =
       isr-in-doubt property (shrinkDoubt property quorumIsr _ b) a _ (leave-own property a b (o .a-below refl)) (leave-others property b _) i l
   kind-in-doubt LeaderExpandIsr a b e o h property i l =
@@ -353,14 +365,14 @@ module _ (c : Limits) (s : State) (sound : Sound c s) where
   kind-in-doubt FollowerReplicate a b e o h property i l =
       put-each (OnlyInDoubt property noDoubt quorumIsr quorumIsr) a _
       (follower-in-doubt-by property noDoubt quorumIsr quorumIsr _ _ a (replicates-other a b h) (λ x. inr (longer-log (replicaAt s a) _ x)))
-      (λ j k. unmoved property noDoubt quorumIsr (replicaAt s j) j) i l
-  kind-in-doubt Unknown a b e o h property i l = unmoved property noDoubt quorumIsr (replicaAt s i) i
+      (λ j k. unchanged-in-doubt property noDoubt quorumIsr (replicaAt s j) j) i l
+  kind-in-doubt Unknown a b e o h property i l = unchanged-in-doubt property noDoubt quorumIsr (replicaAt s i) i
 
   -- ---- what is read of the next state is there
   lead-epochs : (e : ℕ) (leader : Leader) → nextLeaderEpoch (leadBy s e leader) ≡ nextLeaderEpoch s
   unfolding leadBy withReplica
   lead-epochs e None = refl
-  lead-epochs e (Broker b) = refl
+  lead-epochs e (Some b) = refl
 
   pub request-kept : (kind : Kind) → kind ≡ BecomeLeader → (a b e : ℕ) → tableRefusal kind s a b e ≡ accepted → e < nextLeaderEpoch (tableEffect kind s a b e)
   unfolding tableRefusal tableEffect becomeLeader

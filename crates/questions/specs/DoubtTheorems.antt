@@ -1,5 +1,16 @@
 -- Where weak or strong ISR held before an accepted action, it holds after it exactly where the narrow test does, which asks about
 -- what is in doubt alone; and no kind but 2 and 7 exposes more, or another record. Assumes nothing.
+--
+--   HoldsInDoubt d property s                  the property holds of all that is in doubt
+--   Exposes s id                               a presuming replica has a record of this id below its high watermark
+--   in-doubt-iff                               the narrow test says HoldsInDoubt
+--   narrow-decides                             where the property held and only what is in doubt is new, the narrow test decides
+--   holds-after                                so it does after an accepted action on a tidy state that meets the rules
+--   reads-within                               what the test reads of the next state is there
+--   exposes-no-more, exposes-no-other          an action of any kind but 2 and 7 exposes no more, and no other record
+--   holds-after-cut                            holds-after for kind 3, whatever offset the log is cut to
+--   cut-exposes-no-more, cut-exposes-no-other  kind 3 exposes no more, and no other record, whatever the offset
+--   act-holds-after                            holds-after for any state that accepts the action, tidy or not
 use Prim.Native.Nat.{ℕ, zero, suc, _≤_, _<_}
 use mathlib.Core.Path.{_≡_, refl, sym, _∙_, ap}
 use mathlib.Core.Bool.{Bool, true, false, _||_, cond}
@@ -9,7 +20,7 @@ use lib.Dec.{ltb}
 use borrow.Author.Tests.{le-ltb, ltb-false}
 use Rattle.logic.specs.Tests.{all-at, all-by, either, bool-ext}
 use Rattle.parts.specs.Refusal.{accepted}
-use Rattle.parts.specs.declared.Leader.the-variants.{Broker}
+use Rattle.parts.specs.declared.Leader.the-variants.{Some}
 use Rattle.parts.specs.Isr.{member}
 use Rattle.parts.specs.LeaderLaws.{names-iff}
 use Rattle.replica.specs.declared.Record.{Record}
@@ -49,7 +60,7 @@ pub record Exposes (s : State) (id : ℕ) : Type 0 where
   pub leader : ℕ
   pub offset : ℕ
   pub replica : leader < replicaCount (s .limits)
-  pub presumes : replicaAt s leader .leader ≡ Broker leader
+  pub presumes : replicaAt s leader .leader ≡ Some leader
   pub below : offset < replicaAt s leader .hw
   pub has : offset < replicaAt s leader .end
   pub is : recordAt (replicaAt s leader) offset .id ≡ id
@@ -64,13 +75,13 @@ module _ (d : Doubt) (property : Property) (s : State) (h : rules s ≡ true) wh
   R = replicaCount (s .limits)
 
   -- what is in doubt and asked about is looked at, and the other way round
-  looked : (r m x : ℕ) → InDoubt d r m x → Asked property s r m x → x < offsetsInDoubt d property s r m
+  in-doubt-looked-at : (r m x : ℕ) → InDoubt d r m x → Asked property s r m x → x < offsetsInDoubt d property s r m
   unfolding offsetsInDoubt replicaPresumesLeadership
-  looked r m x i a = rw (i .leader, names-iff (replicaAt s r .leader) r .1 (a .presumes), i .unknown, a .member) (a .offset)
+  in-doubt-looked-at r m x i a = rw (i .leader, names-iff (replicaAt s r .leader) r .1 (a .presumes), i .unknown, a .member) (a .offset)
 
-  looked-at : (r m x : ℕ) → r < R → x < offsetsInDoubt d property s r m → d .from ≤ x → InDoubt d r m x × Asked property s r m x
+  looked-at-in-doubt : (r m x : ℕ) → r < R → x < offsetsInDoubt d property s r m → d .from ≤ x → InDoubt d r m x × Asked property s r m x
   unfolding offsetsInDoubt
-  looked-at r m x l k from =
+  looked-at-in-doubt r m x l k from =
       let led = below-cond (member (d .leaders) r) _ x k in
       let presuming = below-cond (replicaPresumesLeadership s r) _ x (led .1) in
       let unknown = below-unless (member (d .agreeing) m) _ x (presuming .1) in
@@ -87,7 +98,7 @@ module _ (d : Doubt) (property : Property) (s : State) (h : rules s ≡ true) wh
       go : (b : Bool) → ltb x (d .from) ≡ b → b || holdSameRecord (replicaAt s r) (replicaAt s m) x ≡ true
       go true e = refl
       go false e =
-          let a = looked-at r m x l u (ltb-false x (d .from) e) in
+          let a = looked-at-in-doubt r m x l u (ltb-false x (d .from) e) in
           hold-same-at-iff s r m x l k .1 (f r m x (a .0) (a .1))
 
   pub in-doubt-iff : holdsInDoubt d property s ≡ true ↔ HoldsInDoubt d property s
@@ -96,7 +107,7 @@ module _ (d : Doubt) (property : Property) (s : State) (h : rules s ≡ true) wh
     (λ e r m x i a.
         let k = asked-member property s h r m x a in
         let at = all-at _ (agreeFrom (d .from) (replicaAt s r) (replicaAt s m))
-        (all-at R (pairAgrees d property s r) (all-at R (leaderAgrees d property s) e r (a .replica)) m k) x (looked r m x i a) in
+        (all-at R (pairAgrees d property s r) (all-at R (leaderAgrees d property s) e r (a .replica)) m k) x (in-doubt-looked-at r m x i a) in
         hold-same-at-iff s r m x (a .replica) k .0 (either (ltb x (d .from)) _ at (le-ltb x (d .from) (i .from)))),
     (λ f.
         all-by R (leaderAgrees d property s)
@@ -126,9 +137,9 @@ module _ (property : Property) (d : Doubt) (s t : State) (h : rules s ≡ true) 
         record { replica = l; presumes = a .presumes; member = rw (asked-of property s r) (a .member); offset = a .offset }
 
     -- a record that both held, in logs that stay
-    carried : (r m x : ℕ) → HoldSameRecord s r m x → Stays (replicaAt s r) (replicaAt t r) x → Stays (replicaAt s m) (replicaAt t m) x
+    same-record-stays : (r m x : ℕ) → HoldSameRecord s r m x → Stays (replicaAt s r) (replicaAt t r) x → Stays (replicaAt s m) (replicaAt t m) x
         → HoldSameRecord t r m x
-    carried r m x same u v =
+    same-record-stays r m x same u v =
         let p = u (same .leader .offset) in
         let q = v (same .member .offset) in
         record {
@@ -144,14 +155,14 @@ module _ (property : Property) (d : Doubt) (s t : State) (h : rules s ≡ true) 
         l : r < replicaCount (s .limits)
         l = below r (a .replica)
 
-        on : Stays (replicaAt s r) (replicaAt t r) x → HoldSameRecord s r m x
+        by-member-log : Stays (replicaAt s r) (replicaAt t r) x → HoldSameRecord s r m x
             → ((j : ℕ) → j < 5 → InDoubt d j m x) ⊎ Stays (replicaAt s m) (replicaAt t m) x → HoldSameRecord t r m x
-        on u same (inl f) = rest r m x (f r (omega (arith, l, met .s1 .ranges .replicas))) a
-        on u same (inr v) = carried r m x same u v
+        by-member-log u same (inl f) = rest r m x (f r (omega (arith, l, met .s1 .ranges .replicas))) a
+        by-member-log u same (inr v) = same-record-stays r m x same u v
 
         go : InDoubt d r m x ⊎ Asks property (s .quorum .isr) (replicaAt s r) r m x × Stays (replicaAt s r) (replicaAt t r) x → HoldSameRecord t r m x
         go (inl i) = rest r m x i a
-        go (inr (b, u)) = let same = held r m x (asked-by r m x l b) in on u same (each m (same .member .replica) .log x)
+        go (inr (b, u)) = let same = held r m x (asked-by r m x l b) in by-member-log u same (each m (same .member .replica) .log x)
 
     -- so the narrow test decides
     pub narrow-decides : askIsr property s .holds ≡ true → askIsr property t .holds ≡ holdsInDoubt d property t
@@ -234,15 +245,15 @@ module _ (s : State) (action : Action) (h : rules s ≡ true) (tidied : tidy s �
 
   -- ---- a kind that is neither 2 nor 7 exposes no more, and no other record
   module _ (less : exposesMore (action .kind) ≡ false) where
-    quiet : (r : ℕ) → r < replicaCount (s .limits) → NoMoreExposed (replicaAt s r) (replicaAt next r) r
+    no-more-each : (r : ℕ) → r < replicaCount (s .limits) → NoMoreExposed (replicaAt s r) (replicaAt next r) r
     unfolding effect
-    quiet = kind-exposed (s .limits) s sound (kindOf (action .kind)) (action .a) (action .b) (action .e) (action-accepted s action ok .1) less
+    no-more-each = kind-exposed (s .limits) s sound (kindOf (action .kind)) (action .a) (action .b) (action .e) (action-accepted s action ok .1) less
 
     pub exposes-no-more : exposed next ≤ exposed s
-    exposes-no-more = exposed-by-each s next (sound .rules) (kept .limits) quiet
+    exposes-no-more = exposed-by-each s next (sound .rules) (kept .limits) no-more-each
 
     pub exposes-no-other : (id : ℕ) → Exposes next id → Exposes s id
-    exposes-no-other = exposes-by-each s next (sound .rules) (kept .limits) quiet
+    exposes-no-other = exposes-by-each s next (sound .rules) (kept .limits) no-more-each
 
 -- ---- kind 3, whatever offset the log is cut to
 module _ (s : State) (h : rules s ≡ true) (tidied : tidy s ≡ s) (a e offset : ℕ) (replica : a < replicaCount (s .limits))

@@ -27,13 +27,13 @@ exposed-at s r l h =
 pub exposed-by : (s : State) (k : ℕ)
     → ((r : ℕ) → r < replicaCount (s .limits) → replicaPresumesLeadership s r ≡ true → replicaAt s r .hw ≤ k) → exposed s ≤ k
 unfolding exposed
-exposed-by s k f = greatest-by (replicaCount (s .limits)) (presumingHw s) k (λ r l. at r l (replicaPresumesLeadership s r) refl)
+exposed-by s k f = greatest-by (replicaCount (s .limits)) (presumingHw s) k (λ r l. hw-at-most r l (replicaPresumesLeadership s r) refl)
   where
-    at : (r : ℕ) → r < replicaCount (s .limits) → (b : Bool) → replicaPresumesLeadership s r ≡ b → cond b (replicaAt s r .hw) 0 ≤ k
-    at r l true e = f r l e
-    at r l false e = omega arith
+    hw-at-most : (r : ℕ) → r < replicaCount (s .limits) → (b : Bool) → replicaPresumesLeadership s r ≡ b → cond b (replicaAt s r .hw) 0 ≤ k
+    hw-at-most r l true e = f r l e
+    hw-at-most r l false e = omega arith
 
--- equal states have the same
+-- equal states expose the same
 pub exposed-same : (s t : State) → replicaCount (s .limits) ≤ 5 → Same s t → exposed s ≡ exposed t
 unfolding exposed replicaPresumesLeadership
 exposed-same s t small m =

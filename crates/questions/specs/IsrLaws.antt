@@ -3,11 +3,11 @@
 use Prim.Native.Nat.{ℕ, zero, suc, _≤_, _<_}
 use mathlib.Core.Path.{_≡_, refl, ap}
 use mathlib.Core.Bool.{Bool, true, false, not, cond}
-use mathlib.Core.Option.{Option, none}
+use mathlib.Core.Option.{Option, none, orElse}
 use native.Mathlib.Omega.{arith}
 use lib.Dec.{eqb}
 use borrow.Author.Tests.{eqb-true}
-use Rattle.logic.specs.Search.{orElse, firstBelow, passing, passing-no, firstThird}
+use Rattle.logic.specs.Search.{firstBelow, passing, passing-no, firstThird}
 use Rattle.parts.specs.Isr.{member}
 use Rattle.parts.specs.Leader.{names}
 use Rattle.replica.specs.LogLaws.{hold-same-record-iff}
@@ -23,12 +23,12 @@ unfoldable pub isrByProperty : Property → ℕ → ℕ → ℕ
 isrByProperty WeakIsr own quorum = own
 isrByProperty StrongIsr own quorum = quorum
 
--- a number below a bound that is 0 where a test fails: the test passed
+-- a number below a bound that is n where a test passes, else 0: the test passed, and the number is below n
 pub below-cond : (b : Bool) (n m : ℕ) → m < cond b n 0 → (b ≡ true) × (m < n)
 below-cond true n m l = (refl, l)
 below-cond false n m l = absurd (omega arith)
 
--- or where another test passes: still below the number
+-- where the bound is 0 also where another test passes, the number is below n too
 below-other : (b c : Bool) (n m : ℕ) → m < cond b 0 (cond c n 0) → m < n
 below-other true c n m l = absurd (omega arith)
 below-other false c n m l = below-cond c n m l .1

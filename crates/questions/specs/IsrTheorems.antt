@@ -1,5 +1,21 @@
 -- What the answers on weak and strong ISR say: "holds" exactly where the property holds, and otherwise a failure with none
--- smaller; the fresh state holds both. Assumes nothing.
+-- smaller; both hold of the fresh state. Assumes nothing.
+--
+--   HoldSameRecord s r m x        the logs of r and m have offset x, and the same record there
+--   Asked property s r m x        r presumes, m is in the ISR asked about, and x is below the hw of r
+--   Holds property s              the property: what is asked about is the same record
+--   SmallestFailure property s t  the triple t is asked about and fails, and none before it does
+--   hold-same-at-iff              the test of two logs at an offset says HoldSameRecord
+--   asked-member                  a member that is asked about is one of the replicas
+--   Says property s h a           what an answer a on a state that meets the rules says
+--   check-is-ask                  of such a state, the answer without the test of the rules is the same
+--   isr-says                      the answer on such a state says so
+--   weak-holds, strong-holds      weak and strong ISR hold exactly where the paper's sentence does, written out
+--   isr-broken                    a state that breaks a rule gets its number, with zeros beside it
+--   isr-number, isr-listed        the number is that of the state, so it is 0 or one of the state's
+--   isr-same                      equal states get equal answers
+--   fresh-nobody-presumes         in a fresh state no replica presumes
+--   fresh-holds                   so both properties hold of it
 use Prim.Native.Nat.{ℕ, _<_, _^_}
 use mathlib.Core.Path.{_≡_, refl, sym, _∙_, ap, subst}
 use mathlib.Core.Bool.{Bool, true, false, not, cond}
@@ -8,10 +24,10 @@ use mathlib.Core.Logic.{_↔_}
 use mathlib.Core.Option.{Option, none, some}
 use native.Mathlib.Omega.{arith}
 use borrow.Author.Tests.{not-true, not-false}
-use Rattle.logic.specs.Tests.{and-left, and-right, and-true, true-false}
+use Rattle.logic.specs.Tests.{and-left, and-right, and-both, true-false}
 use Rattle.logic.specs.Refuse.{by-accepted, by-refused, by-number, listed}
 use Rattle.logic.specs.Search.{Triple, triple, Before, firstTriple, first-triple-none, first-triple-some, first-triple-cong}
-use Rattle.parts.specs.declared.Leader.the-variants.{Broker}
+use Rattle.parts.specs.declared.Leader.the-variants.{Some}
 use Rattle.parts.specs.Refusal.{accepted}
 use Rattle.parts.specs.Isr.{member}
 use Rattle.parts.specs.IsrLaws.{member-within}
@@ -47,7 +63,7 @@ pub record HoldSameRecord (s : State) (r m x : ℕ) : Type 0 where
 -- r presumes, m is a member of the ISR asked about, and the offset x is below r's hw
 pub record Asked (property : Property) (s : State) (r m x : ℕ) : Type 0 where
   pub replica : r < replicaCount (s .limits)
-  pub presumes : replicaAt s r .leader ≡ Broker r
+  pub presumes : replicaAt s r .leader ≡ Some r
   pub member : member (isrAsked property s r) m ≡ true
   pub offset : x < replicaAt s r .hw
 
@@ -89,7 +105,7 @@ module _ (property : Property) (s : State) (r m x : ℕ) (l : r < replicaCount (
   unfolding offsetsAsked replicaPresumesLeadership
   asked-iff = (
     asked-by (isAsked property s r m) refl,
-    (λ a. rw (and-true (names-iff (replicaAt s r .leader) r .1 (a .presumes)) (a .member)) (a .offset)),
+    (λ a. rw (and-both (names-iff (replicaAt s r .leader) r .1 (a .presumes)) (a .member)) (a .offset)),
   )
 
 -- ---- the answer, for a state that meets the rules
@@ -153,7 +169,7 @@ module _ (property : Property) (s : State) (h : rules s ≡ true) where
         fails = λ q. f;
       }
 
-  -- the inner form answers the same
+  -- the answer without the test of the rules is the same
   pub check-is-ask : checkIsr property s ≡ askIsr property s
   unfolding askIsr
   check-is-ask = by-accepted (stateRefusal s) isrRefused (checkIsr property s) (met-refusal s h)
@@ -170,7 +186,7 @@ isr-answer-number (some t) = refl
 -- the two properties written out
 module _ (s : State) (h : rules s ≡ true) where
   written-out : (property : Property) → askIsr property s .holds ≡ true
-      ↔ ((r m x : ℕ) → r < replicaCount (s .limits) → replicaAt s r .leader ≡ Broker r → member (isrAsked property s r) m ≡ true
+      ↔ ((r m x : ℕ) → r < replicaCount (s .limits) → replicaAt s r .leader ≡ Some r → member (isrAsked property s r) m ≡ true
       → x < replicaAt s r .hw → HoldSameRecord s r m x)
   written-out property =
       let p = isr-says property s h .holds in (
@@ -180,14 +196,14 @@ module _ (s : State) (h : rules s ≡ true) where
 
   -- "for every presuming r, every member m of r's own ISR and every offset below r's hw, r and m hold the same record there"
   pub weak-holds : weakIsr s .holds ≡ true
-      ↔ ((r m x : ℕ) → r < replicaCount (s .limits) → replicaAt s r .leader ≡ Broker r → member (replicaAt s r .isr) m ≡ true
+      ↔ ((r m x : ℕ) → r < replicaCount (s .limits) → replicaAt s r .leader ≡ Some r → member (replicaAt s r .isr) m ≡ true
       → x < replicaAt s r .hw → HoldSameRecord s r m x)
   unfolding isrAsked
   weak-holds = written-out WeakIsr
 
   -- "the same with m from the quorum ISR"
   pub strong-holds : strongIsr s .holds ≡ true
-      ↔ ((r m x : ℕ) → r < replicaCount (s .limits) → replicaAt s r .leader ≡ Broker r → member (s .quorum .isr) m ≡ true
+      ↔ ((r m x : ℕ) → r < replicaCount (s .limits) → replicaAt s r .leader ≡ Some r → member (s .quorum .isr) m ≡ true
       → x < replicaAt s r .hw → HoldSameRecord s r m x)
   unfolding isrAsked
   strong-holds = written-out StrongIsr

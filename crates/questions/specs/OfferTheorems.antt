@@ -1,5 +1,20 @@
 -- What an offer says: the action offered is accepted and none smaller is, and 26 says that none at all is. Operands are any
 -- numbers here; accepted ones are bytes. Assumes nothing.
+--
+--   Accepted s kind t                        the action of this kind with the operands t is accepted
+--   Offered s kind t                         it is, none smaller is, and the operands that the kind does not use are 0
+--   offerNumbers                             the numbers that an offer may give beside 0
+--   Case s kind o                            the four cases of an answer o: a broken state, an unknown kind, no offer, an offer
+--   offer-met, offer-unmet                   the answer of a state that meets the rules, and of one that does not
+--   offer-case                               the answer is one of the four cases
+--   offer-accepted                           what an accepted answer names is Offered
+--   offer-broken, offer-unknown, offer-none  1, 2 and 26, each exactly where it belongs
+--   offer-broken-is                          a state that breaks a rule gets its number, with zeros beside it
+--   offer-zeros                              every refusal has zeros beside it
+--   accepted-bytes                           accepted operands are bytes
+--   offer-some                               where any action of the kind is accepted, one is offered
+--   offer-listed                             an offer gives 0 or one of offerNumbers
+--   offer-same                               equal states get equal offers
 use Prim.Native.Nat.{ℕ, _+_, _≤_, _<_}
 use mathlib.Core.Path.{_≡_, refl, sym, _∙_, ap, ap₂, subst}
 use mathlib.Core.Bool.{Bool, true, false}
@@ -225,7 +240,7 @@ module _ (s : State) (kind : ℕ) where
       let p = accepts s (actionOf kind (t .first) (t .second) (t .third)) a in
       (p .met, ltb-false lastKind kind (refuse-zero _ _ _ (p .unrefused) .0))
 
-  -- accepted operands are bytes, so "none at all" is "none over all bytes"
+  -- accepted operands are bytes, so where no bytes are accepted no operands are
   pub accepted-bytes : (t : Triple) → Accepted s kind t → (t .first < 256) × (t .second < 256) × (t .third < 256)
   accepted-bytes t a = fitting-bytes s kind (accepted-met t a .0) t a
 

@@ -52,7 +52,7 @@ impl Doubt {
     {
         match leader {
             Leader::None => Doubt::none(),
-            Leader::Broker(b) => Doubt::of(parts::including_member(0, b), 0, 0),
+            Leader::Some(b) => Doubt::of(parts::including_member(0, b), 0, 0),
         }
     }
 

@@ -19,7 +19,7 @@ pub(crate) fn isr_asked(property: Property, own: u8, quorum: u8) -> u8
     }
 }
 
-// A number where the replica named r presumes leadership: where its own leader is r; else 0.
+// The given number where the replica named r presumes leadership, which is where its own leader is r; else 0.
 pub(crate) fn where_presuming(p: Replica, r: u8, number: u8) -> u8
     ensures { λ n. ⌜ n ≡ cond (names (p .leader) r) number 0 ⌝ }
 {

@@ -25,23 +25,23 @@ use Rattle.renamings.specs.ActionsRenamed.{refusal-renamed, effect-renam
 use Rattle.renamings.specs.TidyRenamed.{at-most-five, fits, met-renamed}
 
 -- ---- the table looks at the operands that a kind uses, and at no other
--- what it has for a kind: the refusal and the effect
-abbrev row : State → Kind → ℕ → ℕ → ℕ → ℕ × State
-row s kind a b e = (tableRefusal kind s a b e, tableEffect kind s a b e)
+-- what the table has for a kind: the refusal and the effect
+abbrev refusalAndEffect : State → Kind → ℕ → ℕ → ℕ → ℕ × State
+refusalAndEffect s kind a b e = (tableRefusal kind s a b e, tableEffect kind s a b e)
 
 module _ (s : State) (a b c d e : ℕ) where
-  row-uses : (kind : Kind) → (uses kind .a ≡ true → a ≡ c) → (uses kind .b ≡ true → b ≡ d) → row s kind a b e ≡ row s kind c d e
+  refusal-and-effect-use : (kind : Kind) → (uses kind .a ≡ true → a ≡ c) → (uses kind .b ≡ true → b ≡ d) → refusalAndEffect s kind a b e ≡ refusalAndEffect s kind c d e
   unfolding tableRefusal tableEffect uses
-  row-uses ControllerShrinkIsr f g = rw (f refl) refl
-  row-uses ControllerElectLeader f g = rw (f refl) refl
-  row-uses BecomeLeader f g = refl
-  row-uses BecomeFollower f g = rw (f refl) refl
-  row-uses LeaderWrite f g = rw (f refl) refl
-  row-uses LeaderShrinkIsr f g = rw (f refl, g refl) refl
-  row-uses LeaderExpandIsr f g = rw (f refl, g refl) refl
-  row-uses LeaderIncHighWatermark f g = rw (f refl) refl
-  row-uses FollowerReplicate f g = rw (f refl, g refl) refl
-  row-uses Unknown f g = refl
+  refusal-and-effect-use ControllerShrinkIsr f g = rw (f refl) refl
+  refusal-and-effect-use ControllerElectLeader f g = rw (f refl) refl
+  refusal-and-effect-use BecomeLeader f g = refl
+  refusal-and-effect-use BecomeFollower f g = rw (f refl) refl
+  refusal-and-effect-use LeaderWrite f g = rw (f refl) refl
+  refusal-and-effect-use LeaderShrinkIsr f g = rw (f refl, g refl) refl
+  refusal-and-effect-use LeaderExpandIsr f g = rw (f refl, g refl) refl
+  refusal-and-effect-use LeaderIncHighWatermark f g = rw (f refl) refl
+  refusal-and-effect-use FollowerReplicate f g = rw (f refl, g refl) refl
+  refusal-and-effect-use Unknown f g = refl
 
 -- ---- operands
 module _ {n : ℕ} (p : Renaming n) where
@@ -77,11 +77,11 @@ module _ (s : State) (p : Renaming (replicaCount (s .limits))) (m : Met s) (acti
       (every-cong _ _ _ _ (operand-fits p (uses kind .b) (action .b)) refl)
 
   -- the row of the table under the renaming has the refusal of the row and its effect, renamed
-  row-renamed : row (ren s) kind (renameAction n (p .to) action .a) (renameAction n (p .to) action .b) (action .e)
+  refusal-and-effect-renamed : refusalAndEffect (ren s) kind (renameAction n (p .to) action .a) (renameAction n (p .to) action .b) (action .e)
       ≡ (tableRefusal kind s (action .a) (action .b) (action .e), ren (tableEffect kind s (action .a) (action .b) (action .e)))
   unfolding renameAction
-  row-renamed =
-      row-uses (ren s) _ _ (p .to (action .a)) (p .to (action .b)) (action .e) kind
+  refusal-and-effect-renamed =
+      refusal-and-effect-use (ren s) _ _ (p .to (action .a)) (p .to (action .b)) (action .e) kind
       (operand-used p (uses kind .a) (action .a)) (operand-used p (uses kind .b) (action .b))
       ∙ ap₂ (λ (k : ℕ) (t : State). (k, t))
       (refusal-renamed s p (at-most-five s m) (fits s m .five) kind (action .a) (action .b) (action .e))
@@ -91,11 +91,11 @@ module _ (s : State) (p : Renaming (replicaCount (s .limits))) (m : Met s) (acti
   unfolding actionRefusal renameAction
   number-renamed =
       ap₂ (λ (t : Bool) (r : ℕ × State). refuse (ltb lastKind (action .kind)) unknownKind (refuse (not t) badOperand (r .0)))
-      operands-fit-renamed row-renamed
+      operands-fit-renamed refusal-and-effect-renamed
 
   next-renamed : effect (ren s) (renameAction n (p .to) action) ≡ ren (effect s action)
   unfolding effect renameAction
-  next-renamed = ap (λ (r : ℕ × State). r .1) row-renamed
+  next-renamed = ap (λ (r : ℕ × State). r .1) refusal-and-effect-renamed
 
   -- an answer under the renaming: the same number, and its state renamed
   pub step-renamed : step (ren s) (renameAction n (p .to) action) ≡ actionAnswer (step s action .refusal) (ren (step s action .state))

@@ -1,5 +1,11 @@
 -- The nine actions under a renaming: the renamed action on the renamed state gets the same number, and its effect is the
 -- renamed effect. Assumes nothing.
+--
+--   ren t, renReplica q                        a state and a replica under the renaming p
+--   presumes-renamed .. member-has-hw-renamed  the tests that the actions share: of p(a) in the renamed state as of a in the state
+--   refusal-renamed                            the table refuses the renamed action on the renamed state with the same number
+--   update-renamed .. isr-renamed              the changes that the effects are made of
+--   effect-renamed                             the effect of the renamed action on the renamed state is the effect, renamed
 use Prim.Native.Nat.{ℕ, _+_, _≤_, min}
 use mathlib.Core.Path.{_≡_, refl, sym, ap, _∙_}
 use mathlib.Core.Bool.{Bool, true, false}
@@ -9,7 +15,7 @@ use lib.ListN.{length}
 use Rattle.logic.specs.Tests.{every-cong}
 use Rattle.logic.specs.Maps.{map-set}
 use Rattle.parts.specs.declared.Leader.{Leader}
-use Rattle.parts.specs.declared.Leader.the-variants.{None, Broker}
+use Rattle.parts.specs.declared.Leader.the-variants.{None, Some}
 use Rattle.parts.specs.Isr.{without, including, isAlone}
 use Rattle.parts.specs.Leader.{names}
 use Rattle.replica.specs.declared.Replica.{Replica}
@@ -32,40 +38,40 @@ module _ (s : State) (p : Renaming (replicaCount (s .limits))) (five : replicaCo
   abbrev renReplica : Replica → Replica
   renReplica = renameReplica (p .to) (p .from)
 
-  at : (i : ℕ) → replicaAt (ren s) (p .to i) ≡ renReplica (replicaAt s i)
-  at i = replica-renamed p five s i l
+  replica-at : (i : ℕ) → replicaAt (ren s) (p .to i) ≡ renReplica (replicaAt s i)
+  replica-at i = replica-renamed p five s i l
 
   -- ---- the tests that the actions share
   pub presumes-renamed : (a : ℕ) → replicaPresumesLeadership (ren s) (p .to a) ≡ replicaPresumesLeadership s a
   unfolding replicaPresumesLeadership
-  presumes-renamed a = rw (at a) (names-renamed p five (replicaAt s a .leader) a)
+  presumes-renamed a = rw (replica-at a) (names-renamed p five (replicaAt s a .leader) a)
 
   following-renamed : (a b : ℕ) → replicaIsFollowing (ren s) (p .to a) (p .to b) ≡ replicaIsFollowing s a b
   unfolding replicaIsFollowing
-  following-renamed a b = rw (at a) (names-renamed p five (replicaAt s a .leader) b)
+  following-renamed a b = rw (replica-at a) (names-renamed p five (replicaAt s a .leader) b)
 
   true-leader-renamed : (a : ℕ) → isTrueLeader (ren s) (p .to a) ≡ isTrueLeader s a
   unfolding isTrueLeader
   true-leader-renamed a =
-      every-cong _ _ _ _ (presumes-renamed a) (every-cong _ _ _ _ (names-renamed p five (s .quorum .leader) a) (rw (at a) refl))
+      every-cong _ _ _ _ (presumes-renamed a) (every-cong _ _ _ _ (names-renamed p five (s .quorum .leader) a) (rw (replica-at a) refl))
 
   caught-up-renamed : (a b n : ℕ) → isFollowerCaughtUp (ren s) (p .to a) (p .to b) n ≡ isFollowerCaughtUp s a b n
   unfolding isFollowerCaughtUp
-  caught-up-renamed a b n = rw (following-renamed b a, at b) refl
+  caught-up-renamed a b n = rw (following-renamed b a, replica-at b) refl
 
   not-above-renamed : (a e : ℕ) → epochNotAbove (ren s) (p .to a) e ≡ epochNotAbove s a e
   unfolding epochNotAbove
-  not-above-renamed a e = rw (at a) refl
+  not-above-renamed a e = rw (replica-at a) refl
 
   member-has-hw-renamed : (a m : ℕ) → memberHasHw (ren s) (p .to a) (p .to m) ≡ memberHasHw s a m
   unfolding memberHasHw
-  member-has-hw-renamed a m = rw (following-renamed m a, at a, at m, member-renamed p five (replicaAt s a .isr) m) refl
+  member-has-hw-renamed a m = rw (following-renamed m a, replica-at a, replica-at m, member-renamed p five (replicaAt s a .isr) m) refl
 
   -- ---- the refusals
   leader-refusal-renamed : (e : ℕ) (leader : Leader) → leaderRefusal (ren s) e (renameLeader (p .to) leader) ≡ leaderRefusal s e leader
   unfolding leaderRefusal renameLeader
   leader-refusal-renamed e None = refl
-  leader-refusal-renamed e (Broker b) = rw (not-above-renamed b e) refl
+  leader-refusal-renamed e (Some b) = rw (not-above-renamed b e) refl
 
   -- the table refuses with the same number
   pub refusal-renamed : (kind : Kind) (a b e : ℕ) → tableRefusal kind (ren s) (p .to a) (p .to b) e ≡ tableRefusal kind s a b e
@@ -75,11 +81,11 @@ module _ (s : State) (p : Renaming (replicaCount (s .limits))) (five : replicaCo
   refusal-renamed ControllerElectLeader a b e = rw (member-renamed p five (s .quorum .isr) a, names-renamed p five (s .quorum .leader) a) refl
   refusal-renamed BecomeLeader a b e = rw (request-renamed p five s e, leader-refusal-renamed e (requestAt s e .leader)) refl
   refusal-renamed BecomeFollower a b e = rw (request-renamed p five s e, names-renamed p five (requestAt s e .leader) a, not-above-renamed a e) refl
-  refusal-renamed LeaderWrite a b e = rw (presumes-renamed a, at a) refl
+  refusal-renamed LeaderWrite a b e = rw (presumes-renamed a, replica-at a) refl
   refusal-renamed LeaderShrinkIsr a b e =
-      rw (eqb-to p a b, true-leader-renamed a, at a, member-renamed p five (replicaAt s a .isr) b, caught-up-renamed a b (replicaAt s a .end)) refl
+      rw (eqb-to p a b, true-leader-renamed a, replica-at a, member-renamed p five (replicaAt s a .isr) b, caught-up-renamed a b (replicaAt s a .end)) refl
   refusal-renamed LeaderExpandIsr a b e =
-      rw (true-leader-renamed a, at a, member-renamed p five (replicaAt s a .isr) b, caught-up-renamed a b (replicaAt s a .hw)) refl
+      rw (true-leader-renamed a, replica-at a, member-renamed p five (replicaAt s a .isr) b, caught-up-renamed a b (replicaAt s a .hw)) refl
   refusal-renamed LeaderIncHighWatermark a b e =
       rw (
         presumes-renamed a,
@@ -87,7 +93,7 @@ module _ (s : State) (p : Renaming (replicaCount (s .limits))) (five : replicaCo
             (λ m h. member-has-hw-renamed a m),
       )
       refl
-  refusal-renamed FollowerReplicate a b e = rw (presumes-renamed b, following-renamed a b, at a, at b) refl
+  refusal-renamed FollowerReplicate a b e = rw (presumes-renamed b, following-renamed a b, replica-at a, replica-at b) refl
   refusal-renamed Unknown a b e = refl
 
   -- ---- the effects
@@ -112,18 +118,18 @@ module _ (s : State) (p : Renaming (replicaCount (s .limits))) (five : replicaCo
       ≡ becomeFollowerAndTruncateTo (renReplica q) epoch (renameLeader (p .to) leader) (renameIsr (p .from) isr) offset
   unfolding becomeFollowerAndTruncateTo withRequest withHw truncateUnder truncateTo tidyReplica withEnd renameLeader
   follower-renamed q epoch None isr offset = refl
-  follower-renamed q epoch (Broker b) isr offset = refl
+  follower-renamed q epoch (Some b) isr offset = refl
 
   lead-renamed : (e : ℕ) (leader : Leader) → leadBy (ren s) e (renameLeader (p .to) leader) ≡ ren (leadBy s e leader)
   unfolding leadBy renameLeader withRequest
   lead-renamed e None = refl
-  lead-renamed e (Broker b) =
-      rw (at b, request-renamed p five s e) (sym (put-renamed b (withRequest (replicaAt s b) (pos e) (Broker b) (requestAt s e .isr))))
+  lead-renamed e (Some b) =
+      rw (replica-at b, request-renamed p five s e) (sym (put-renamed b (withRequest (replicaAt s b) (pos e) (Some b) (requestAt s e .isr))))
 
   isr-renamed : (a isr : ℕ) → quorumUpdateLeaderAndIsr (ren s) (p .to a) (renameIsr (p .from) isr) ≡ ren (quorumUpdateLeaderAndIsr s a isr)
   unfolding quorumUpdateLeaderAndIsr withQuorumIsr withIsr
   isr-renamed a isr =
-      rw (at a) (ap (λ (t : State). withQuorumIsr t (renameIsr (p .from) isr)) (sym (put-renamed a (withIsr (replicaAt s a) isr))))
+      rw (replica-at a) (ap (λ (t : State). withQuorumIsr t (renameIsr (p .from) isr)) (sym (put-renamed a (withIsr (replicaAt s a) isr))))
 
   -- the effect is the renamed effect
   pub effect-renamed : (kind : Kind) (a b e : ℕ) → tableEffect kind (ren s) (p .to a) (p .to b) e ≡ ren (tableEffect kind s a b e)
@@ -132,23 +138,23 @@ module _ (s : State) (p : Renaming (replicaCount (s .limits))) (five : replicaCo
   effect-renamed ControllerShrinkIsr a b e =
       rw (names-renamed p five (s .quorum .leader) a, alone-renamed p five (s .quorum .isr) a)
       (shrink-renamed (names (s .quorum .leader) a) (isAlone (s .quorum .isr) a) a)
-  effect-renamed ControllerElectLeader a b e = sym (update-renamed (Broker a) (s .quorum .isr))
+  effect-renamed ControllerElectLeader a b e = sym (update-renamed (Some a) (s .quorum .isr))
   effect-renamed BecomeLeader a b e = rw (request-renamed p five s e) (lead-renamed e (requestAt s e .leader))
   effect-renamed BecomeFollower a b e =
-      rw (at a, request-renamed p five s e)
+      rw (replica-at a, request-renamed p five s e)
       (ap (withReplica (ren s) (p .to a)) (sym (follower-renamed (replicaAt s a) (pos e) (requestAt s e .leader) (requestAt s e .isr) (replicaAt s a .hw)))
       ∙ sym
       (put-renamed a
       (becomeFollowerAndTruncateTo (replicaAt s a) (pos e) (requestAt s e .leader) (requestAt s e .isr) (replicaAt s a .hw))))
   effect-renamed LeaderWrite a b e =
-      rw (at a) (ap (λ (t : State). withNextRecordId t (nextRecordId s + 1)) (sym (put-renamed a (append (replicaAt s a) (nextRecord s a)))))
+      rw (replica-at a) (ap (λ (t : State). withNextRecordId t (nextRecordId s + 1)) (sym (put-renamed a (append (replicaAt s a) (nextRecord s a)))))
   effect-renamed LeaderShrinkIsr a b e =
-      rw (at a, ← without-renamed p five (replicaAt s a .isr) b) (isr-renamed a (without (replicaAt s a .isr) b))
+      rw (replica-at a, ← without-renamed p five (replicaAt s a .isr) b) (isr-renamed a (without (replicaAt s a .isr) b))
   effect-renamed LeaderExpandIsr a b e =
-      rw (at a, ← including-renamed p five (replicaAt s a .isr) b) (isr-renamed a (including (replicaAt s a .isr) b))
-  effect-renamed LeaderIncHighWatermark a b e = rw (at a) (sym (put-renamed a (withHw (replicaAt s a) (replicaAt s a .hw + 1))))
+      rw (replica-at a, ← including-renamed p five (replicaAt s a .isr) b) (isr-renamed a (including (replicaAt s a .isr) b))
+  effect-renamed LeaderIncHighWatermark a b e = rw (replica-at a) (sym (put-renamed a (withHw (replicaAt s a) (replicaAt s a .hw + 1))))
   effect-renamed FollowerReplicate a b e =
-      rw (at a, at b)
+      rw (replica-at a, replica-at b)
       (sym
       (put-renamed a
       (withHw (append (replicaAt s a) (recordAt (replicaAt s b) (replicaAt s a .end))) (min (replicaAt s b .hw) (replicaAt s a .end + 1)))))

@@ -1,5 +1,24 @@
 -- What the code of renamings works with: names, the constant of the table, the renamed ISR by new names, the renamed ISRs as a
 -- table, the old names as five numbers, and the renaming that leaves a state. Assumes nothing.
+--
+--   new-name-place                            a place below five holds the new name of its own number
+--   in-place-low, in-place-high               the test of one place, below n and from n on
+--   numbers-at                                number 5 * k + j of the table is place j of row k
+--   renames-wide                              a renaming of a state's replicas is a renaming of five places
+--   namedBit isr i name                       the bit of the new name of i where i is a member, else 0
+--   named-bit                                 as code computes it, in a byte and at most 16
+--   isrByNames p isr, isr-by-names            the sum of these bits over the five replicas; it is the renamed ISR
+--   isr-named                                 what the table of all 32 renamed ISRs holds for an ISR
+--   requestLookedUp p isrs requests e         request e with its ISR looked up so
+--   requests-looked-up                        the requests looked up are the renamed requests
+--   inverse-start, inverse-turn               the loop that finds the old names: its start, and a turn
+--   both-inward                               new names and old names are below five
+--   back-old, back-below                      what code reads of the inverse: the old names, below five
+--   leaves-state                              a renaming of no replicas leaves the state
+--   state-by                                  the renamed parts together are the renamed state
+--   rename-broken, rename-unfit, rename-fits  what renaming answers: 1, 27, or the state under p
+--   rename-given                              a refused renaming gives back the given state
+--   renameNumbers, rename-listed              the numbers that renaming may give beside 0; it gives no other
 use Prim.Native.Nat.{ℕ, zero, suc, _+_, _*_, _^_, _/_, _%_, _≤_, _<_}
 use mathlib.Core.Path.{_≡_, refl, sym, ap, ap₂, _∙_, fun-ext}
 use mathlib.Core.Bool.{Bool, true, false, not, _&&_}
@@ -71,7 +90,7 @@ rows-at (a ∷ b ∷ c ∷ d ∷ e ∷ l) (suc k) j h i =
     let past : 5 * suc k + j ≡ suc (suc (suc (suc (suc (5 * k + j))))) = omega arith in
     rw past (rows-at l k j (omega arith) i)
 
--- what stands in row k, place j of the 600 numbers
+-- by fives the 600 numbers are the rows, so place j of row k is number 5 * k + j
 numbers-rows : rowsOf tableNumbers ≡ rows
 unfolding rowsOf tableNumbers rows orders withoutPlace concatBelow
 numbers-rows = refl
@@ -176,7 +195,7 @@ requests-looked-up p isrs requests from e =
     (λ i h. rw (isr-named from isrs (requestIn requests i .isr) e) refl)
 
 -- ---- the old names as five numbers
--- before the first place each number is its own
+-- before the first place is looked at, each number is its own old name
 pub inverse-start : (p : List ℕ) → 0 ∷ 1 ∷ 2 ∷ 3 ∷ 4 ∷ [] ≡ table 5 (holder 0 p)
 unfolding table tableFrom holder
 inverse-start p = refl
@@ -226,7 +245,7 @@ leaves-state p s f fit =
     sym (ap₂ (λ (t u : ℕ → ℕ). renameState t u s) to from ∙ rename-same s fit)
 
 -- ---- the parts of the code together
--- the requests, one by one
+-- the requests renamed one by one are the list renamed
 requests-by : (to from : ℕ → ℕ) (requests : List Request) → length requests ≡ 16
     → table 16 (renamedRequestAt to from requests) ≡ map (renameRequest to from) requests
 requests-by to from requests l =

@@ -1,6 +1,23 @@
 -- The rows of the table that are renamings of n replicas. There are n! of them, and in the table's order they are read off its first
 -- n! rows: those rows leave the first 5 - n places, and their last n places, less 5 - n, are the orders of 0 to n - 1. One test
 -- that is computed shows it. Assumes nothing.
+--
+--   fittingRows n                           the rows of the table that are renamings of n replicas
+--   factorial n                             n!, how many there are
+--   lastPlace n held j                      place j of such a row, by what the places of a row of the table hold
+--   last-cong                               it looks at five places of that row alone
+--   heldBy k x                              what place x of row k of the table holds
+--   fittingRow n k                          number k of the fitting rows, read off row k of the table
+--   fitting-rows .. fitting-at              the fitting rows are these, n! of them; what is read off is not below 5 - n
+--   counts-are-factorials                   n! by the constant of the code
+--   fitting-fits, fitting-all               each is a renaming of n replicas, and each renaming of n replicas is one of them
+--   fitting-first, fitting-once             the first leaves every replica; none stands twice
+--   fitting-one, fitting-most, fitting-few  there is one at least, there are at most 120, and below five replicas at most 24
+--   groupRest n b k                         how many rows from row k on agree with it up to place b
+--   behindGroup n b k to                    the row behind those, or `to` where that comes before
+--   behind-bounds, group-alike              it is behind row k and not behind `to`; the rows before it name replica b as row k does
+--   partNumber first k, partNumbers first   the 120 numbers of the 24 rows from row `first` on
+--   part-at                                 what stands at a place of such a part
 use Prim.Native.Nat.{ℕ, zero, suc, _+_, _*_, _-_, _%_, _≤_, _<_}
 use mathlib.Core.Path.{_≡_, refl, sym, ap, _∙_}
 use mathlib.Core.Bool.{Bool, true, not, cond}
@@ -81,17 +98,17 @@ last-high n k j h l b =
     ltb-false (heldBy k (5 - n + j)) (5 - n)
     (not-true _ (all-at n (highTest n k) (all-at (factorial n) (λ (k : ℕ). allBelow n (highTest n k)) (all-at 6 highsTest (every-at fittingTests fitting-right 1) n (omega arith)) k l) j b))
 
--- there are n! of them, and row k is number k
+-- there are n! of them, and number k of them is fittingRow n k
 pub fitting-count : (n : ℕ) → n ≤ 5 → length (fittingRows n) ≡ factorial n
 fitting-count n h = ap length (fitting-rows n h) ∙ length-table (factorial n) (fittingRow n)
 
 pub fitting-at : (n k : ℕ) → n ≤ 5 → k < factorial n → getD (fittingRows n) k [] ≡ fittingRow n k
 fitting-at n k h l = ap (λ (ps : List (List ℕ)). getD ps k []) (fitting-rows n h) ∙ getD-table (factorial n) (fittingRow n) k [] l
 
--- as a constant of the code
-pub counted : (n : ℕ) → n ≤ 5 → getD (1 ∷ 1 ∷ 2 ∷ 6 ∷ 24 ∷ 120 ∷ []) n 0 ≡ factorial n
+-- n! by the constant of the code
+pub counts-are-factorials : (n : ℕ) → n ≤ 5 → getD (1 ∷ 1 ∷ 2 ∷ 6 ∷ 24 ∷ 120 ∷ []) n 0 ≡ factorial n
 unfolding allBelow factorial
-counted n h = eqb-true _ _ (all-at 6 (λ (n : ℕ). eqb (getD (1 ∷ 1 ∷ 2 ∷ 6 ∷ 24 ∷ 120 ∷ []) n 0) (factorial n)) refl n (omega arith))
+counts-are-factorials n h = eqb-true _ _ (all-at 6 (λ (n : ℕ). eqb (getD (1 ∷ 1 ∷ 2 ∷ 6 ∷ 24 ∷ 120 ∷ []) n 0) (factorial n)) refl n (omega arith))
 
 -- each is a renaming of n replicas
 pub fitting-fits : (n k : ℕ) → n ≤ 5 → k < factorial n → isRenaming n (fittingRow n k) ≡ true
@@ -166,8 +183,8 @@ unfolding every allBelow concatBelow table tableFrom newName withoutPlace orders
 group-right = refl
 
 module _ (n b k : ℕ) (five : n ≤ 5) (low : b < n) (l : k < factorial n) where
-  tests : (i : ℕ) → getD (groupTests n b k) i true ≡ true
-  tests =
+  group-tests-pass : (i : ℕ) → getD (groupTests n b k) i true ≡ true
+  group-tests-pass =
       every-at (groupTests n b k)
       (all-at (factorial n) (groupTest n b)
       (all-at n (λ (b : ℕ). allBelow (factorial n) (groupTest n b))
@@ -177,7 +194,7 @@ module _ (n b k : ℕ) (five : n ≤ 5) (low : b < n) (l : k < factorial n) wher
   pub behind-bounds : (to : ℕ) → k < to → (k < behindGroup n b k to) × (behindGroup n b k to ≤ to)
   unfolding behindGroup
   behind-bounds to h =
-      let some : 0 < groupRest n b k = ltb-true 0 (groupRest n b k) (tests 1) in
+      let some : 0 < groupRest n b k = ltb-true 0 (groupRest n b k) (group-tests-pass 1) in
       elim (decLt (k + groupRest n b k) to) [
         | yes q ↦ rw (lt-ltb (k + groupRest n b k) to q) (omega arith, omega arith)
         | no q ↦ rw (le-ltb (k + groupRest n b k) to (omega arith)) (h, omega arith)
@@ -190,7 +207,7 @@ module _ (n b k : ℕ) (five : n ≤ 5) (low : b < n) (l : k < factorial n) wher
       let e : k + (i - k) ≡ i = omega arith in
       ap (λ (r : ℕ). newName (fittingRow n r) b) (sym e)
       ∙ eqb-true (newName (fittingRow n (k + (i - k))) b) (newName (fittingRow n k) b)
-      (all-at (groupRest n b k) (alikeTest n b k) (tests 0) (i - k) (within (decLt (k + groupRest n b k) to)))
+      (all-at (groupRest n b k) (alikeTest n b k) (group-tests-pass 0) (i - k) (within (decLt (k + groupRest n b k) to)))
     where
       within : Dec (k + groupRest n b k < to) → i - k < groupRest n b k
       within (yes d) = let z : i < k + groupRest n b k = rw (lt-ltb (k + groupRest n b k) to d) at q in omega arith

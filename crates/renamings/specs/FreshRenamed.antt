@@ -48,20 +48,20 @@ unfolding renamed freshState renameLeader
 fresh-renamed c ok p h =
     ap (renameState (newName p) (oldName p)) (fresh-tidy c)
     ∙ rw (
-      full-stays by five,
+      full-stays renamingByP five,
       empty-renamed (oldName p),
-      replicas-stay by five (freshReplicaAt c) alike (λ j. stays (ltb j (replicaCount c))),
+      replicas-stay renamingByP five (freshReplicaAt c) alike (λ j. stays (ltb j (replicaCount c))),
     )
   where
     five : replicaCount c ≤ 5
     five = ranges-of c ok .replicas
 
-    by : Renaming (replicaCount c)
-    by = renamingOf (replicaCount c) five p h
+    renamingByP : Renaming (replicaCount c)
+    renamingByP = renamingOf (replicaCount c) five p h
 
     alike : (j : ℕ) → freshReplicaAt c (oldName p j) ≡ freshReplicaAt c j
     alike j =
-        ap (λ (b : Bool). cond b freshReplica zeroReplica) (ltb-to (inverse by) (replicaCount c) (le-refl (replicaCount c)) j)
+        ap (λ (b : Bool). cond b freshReplica zeroReplica) (ltb-to (inverse renamingByP) (replicaCount c) (le-refl (replicaCount c)) j)
 
     stays : (b : Bool) → renameReplica (newName p) (oldName p) (cond b freshReplica zeroReplica) ≡ cond b freshReplica zeroReplica
     stays true = rw (empty-renamed (oldName p))

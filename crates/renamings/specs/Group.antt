@@ -5,7 +5,7 @@ use mathlib.Core.Path.{_≡_, refl, sym, ap, _∙_, fun-ext}
 use Rattle.logic.specs.Maps.{map-twice, map-same}
 use Rattle.logic.specs.Table.{getD-table, ext-table, table-cong}
 use Rattle.parts.specs.declared.Leader.{Leader}
-use Rattle.parts.specs.declared.Leader.the-variants.{None, Broker}
+use Rattle.parts.specs.declared.Leader.the-variants.{None, Some}
 use Rattle.parts.specs.Isr.{member, isrOf}
 use Rattle.parts.specs.IsrLaws.{member-isrOf, isrOf-cong, isrOf-member}
 use Rattle.replica.specs.declared.Replica.{Replica}
@@ -22,35 +22,35 @@ use Rattle.renamings.specs.RulesRenamed.{Fits}
 leader-twice : (u t : ℕ → ℕ) (leader : Leader) → renameLeader (λ i. u (t i)) leader ≡ renameLeader u (renameLeader t leader)
 unfolding renameLeader
 leader-twice u t None = refl
-leader-twice u t (Broker b) = refl
+leader-twice u t (Some b) = refl
 
 module _ {n : ℕ} (p q : Renaming n) (five : n ≤ 5) where
-  abbrev both : Renaming n
-  both = compose p q
+  abbrev composite : Renaming n
+  composite = compose p q
 
-  isr-twice : (isr : ℕ) → renameIsr (both .from) isr ≡ renameIsr (p .from) (renameIsr (q .from) isr)
+  isr-twice : (isr : ℕ) → renameIsr (composite .from) isr ≡ renameIsr (p .from) (renameIsr (q .from) isr)
   unfolding renameIsr
   isr-twice isr =
       isrOf-cong (λ j. member isr (q .from (p .from j))) (λ j. member (isrOf (λ i. member isr (q .from i))) (p .from j))
       (λ j h. sym (member-isrOf (λ i. member isr (q .from i)) (p .from j) (from-below p 5 five j h)))
 
   request-twice : (r : Request)
-      → renameRequest (both .to) (both .from) r ≡ renameRequest (p .to) (p .from) (renameRequest (q .to) (q .from) r)
+      → renameRequest (composite .to) (composite .from) r ≡ renameRequest (p .to) (p .from) (renameRequest (q .to) (q .from) r)
   request-twice r = rw (leader-twice (p .to) (q .to) (r .leader), isr-twice (r .isr)) refl
 
   replica-twice : (r : Replica)
-      → renameReplica (both .to) (both .from) r ≡ renameReplica (p .to) (p .from) (renameReplica (q .to) (q .from) r)
+      → renameReplica (composite .to) (composite .from) r ≡ renameReplica (p .to) (p .from) (renameReplica (q .to) (q .from) r)
   replica-twice r = rw (leader-twice (p .to) (q .to) (r .leader), isr-twice (r .isr)) refl
 
   -- first q and then p is the composed renaming
   pub rename-twice : (s : State)
-      → renameState (both .to) (both .from) s ≡ renameState (p .to) (p .from) (renameState (q .to) (q .from) s)
+      → renameState (composite .to) (composite .from) s ≡ renameState (p .to) (p .from) (renameState (q .to) (q .from) s)
   unfolding renameReplicas
   rename-twice s =
       state-path refl refl refl
       (rw (leader-twice (p .to) (q .to) (s .quorum .leader), isr-twice (s .quorum .isr)) refl)
-      (map-twice (renameRequest (p .to) (p .from)) (renameRequest (q .to) (q .from)) (renameRequest (both .to) (both .from)) request-twice (s .requests))
-      (table-cong 5 (renamedReplicaAt (both .to) (both .from) (s .replicas))
+      (map-twice (renameRequest (p .to) (p .from)) (renameRequest (q .to) (q .from)) (renameRequest (composite .to) (composite .from)) request-twice (s .requests))
+      (table-cong 5 (renamedReplicaAt (composite .to) (composite .from) (s .replicas))
       (renamedReplicaAt (p .to) (p .from) (renameReplicas (q .to) (q .from) (s .replicas)))
       (λ j h.
       replica-twice (replicaIn (s .replicas) (q .from (p .from j)))
@@ -58,27 +58,27 @@ module _ {n : ℕ} (p q : Renaming n) (five : n ≤ 5) where
       (sym (getD-table 5 (renamedReplicaAt (q .to) (q .from) (s .replicas)) (p .from j) noReplica (from-below p 5 five j h)))))
 
 -- ---- the renaming that leaves every number
-abbrev same : ℕ → ℕ
-same i = i
+abbrev identity : ℕ → ℕ
+identity i = i
 
-leader-same : (leader : Leader) → renameLeader same leader ≡ leader
+leader-same : (leader : Leader) → renameLeader identity leader ≡ leader
 unfolding renameLeader
 leader-same None = refl
-leader-same (Broker b) = refl
+leader-same (Some b) = refl
 
-isr-same : (isr : ℕ) → isr < 32 → renameIsr same isr ≡ isr
+isr-same : (isr : ℕ) → isr < 32 → renameIsr identity isr ≡ isr
 unfolding renameIsr
 isr-same isr h = isrOf-member isr h
 
-pub rename-same : (s : State) → Fits s → renameState same same s ≡ s
+pub rename-same : (s : State) → Fits s → renameState identity identity s ≡ s
 unfolding renameReplicas
 rename-same s f =
     state-path refl refl refl
     (rw (leader-same (s .quorum .leader), isr-same (s .quorum .isr) (f .quorum)) refl)
-    (map-same zeroRequest (renameRequest same same) (s .requests)
+    (map-same zeroRequest (renameRequest identity identity) (s .requests)
     (λ e. rw (leader-same (requestAt s e .leader), isr-same (requestAt s e .isr) (f .requests e)) refl))
     (sym
-    (ext-table noReplica 5 (renamedReplicaAt same same (s .replicas)) (s .replicas) (f .five)
+    (ext-table noReplica 5 (renamedReplicaAt identity identity (s .replicas)) (s .replicas) (f .five)
     (λ j h. rw (leader-same (replicaAt s j .leader), isr-same (replicaAt s j .isr) (f .replicas j)) refl)))
 
 -- ---- there and back

@@ -1,5 +1,18 @@
 -- Leaders, ISRs, replicas and requests under a renaming: what is read of a renamed state is the renamed part of the state, and
 -- what is put into it is the renamed part put there. Assumes nothing.
+--
+--   empty-renamed                               the empty ISR stays empty
+--   zero-replica-renamed, zero-request-renamed  a replica and a request of zeros stay
+--   request-in-renamed                          request e of the renamed state is request e, renamed
+--   replica-in-old                              replica j of it is the replica that was named `from j`, renamed
+--   member-renamed                              p(i) is in the renamed ISR exactly where i is in the ISR
+--   without-renamed .. alone-renamed            a member taken out, put in, and alone
+--   isr-small                                   a renamed ISR is below 32
+--   full-stays, full-renamed                    the full ISR stays full, and no other becomes full
+--   none-renamed                                an ISR is empty exactly where the renamed one is
+--   names-renamed .. no-leader-renamed          the tests of leaders: whom they name, their range, in an ISR, equal, none
+--   replica-renamed, request-renamed            the replica p(i) and request e of a renamed state
+--   with-replica-renamed                        a replica put at i, renamed, is the renamed replica put at p(i)
 use Prim.Native.Nat.{ℕ, _≤_, _<_}
 use mathlib.Core.Path.{_≡_, refl, sym, ap, ap₂, _∙_}
 use mathlib.Core.Bool.{Bool, not, _&&_, _||_}
@@ -14,7 +27,7 @@ use borrow.Author.Tests.{eqb-true, eq-eqb}
 use Rattle.logic.specs.Tests.{bool-ext}
 use Rattle.logic.specs.Table.{table, length-table, getD-table, ext-table}
 use Rattle.parts.specs.declared.Leader.{Leader}
-use Rattle.parts.specs.declared.Leader.the-variants.{None, Broker}
+use Rattle.parts.specs.declared.Leader.the-variants.{None, Some}
 use Rattle.parts.specs.Isr.{member, fullIsr, isrOf, without, including, noOther, isAlone}
 use Rattle.parts.specs.IsrLaws.{member-past, member-none, member-full, member-isrOf, isrOf-small, isrOf-cong, isrOf-member, full-below, below-32}
 use Rattle.parts.specs.Leader.{names, sameLeader, leaderBelow, leaderInIsr}
@@ -53,7 +66,7 @@ module _ (to from : ℕ → ℕ) where
       ap (getD (map (renameRequest to from) requests) e) (sym zero-request-renamed)
       ∙ List·getD-map (renameRequest to from) requests e zeroRequest
 
-  -- a replica of it, below five
+  -- the replica named j of it, where j is below five
   pub replica-in-old : (replicas : List Replica) (j : ℕ) → j < 5
       → replicaIn (renameReplicas to from replicas) j ≡ renamedReplicaAt to from replicas j
   unfolding renameReplicas
@@ -112,7 +125,7 @@ module _ {n : ℕ} (p : Renaming n) (five : n ≤ 5) where
   unfolding renameIsr
   isr-small isr = isrOf-small (λ j. member isr (p .from j))
 
-  -- an ISR that the renaming leaves
+  -- where the renaming leaves one ISR, another is equal to it exactly where the other, renamed, is
   fixed-renamed : (fixed isr : ℕ) → fixed < 32 → isr < 32 → renameIsr (p .from) fixed ≡ fixed → eqb (renameIsr (p .from) isr) fixed ≡ eqb isr fixed
   fixed-renamed fixed isr a b e =
       bool-ext (eqb (renameIsr (p .from) isr) fixed) (eqb isr fixed)
@@ -142,29 +155,29 @@ module _ {n : ℕ} (p : Renaming n) (five : n ≤ 5) where
   pub names-renamed : (leader : Leader) (a : ℕ) → names (renameLeader (p .to) leader) (p .to a) ≡ names leader a
   unfolding names renameLeader
   names-renamed None a = refl
-  names-renamed (Broker b) a = eqb-to p b a
+  names-renamed (Some b) a = eqb-to p b a
 
   pub leader-below-renamed : (leader : Leader) → leaderBelow n (renameLeader (p .to) leader) ≡ leaderBelow n leader
   unfolding leaderBelow renameLeader
   leader-below-renamed None = refl
-  leader-below-renamed (Broker b) = ltb-to p n (le-refl n) b
+  leader-below-renamed (Some b) = ltb-to p n (le-refl n) b
 
   pub leader-in-isr-renamed : (isr : ℕ) (leader : Leader) → leaderInIsr (renameIsr (p .from) isr) (renameLeader (p .to) leader) ≡ leaderInIsr isr leader
   unfolding leaderInIsr renameLeader
   leader-in-isr-renamed isr None = refl
-  leader-in-isr-renamed isr (Broker b) = member-renamed isr b
+  leader-in-isr-renamed isr (Some b) = member-renamed isr b
 
   pub same-leader-renamed : (l m : Leader) → sameLeader (renameLeader (p .to) l) (renameLeader (p .to) m) ≡ sameLeader l m
   unfolding sameLeader names renameLeader
   same-leader-renamed None None = refl
-  same-leader-renamed None (Broker c) = refl
-  same-leader-renamed (Broker b) None = refl
-  same-leader-renamed (Broker b) (Broker c) = eqb-to p c b
+  same-leader-renamed None (Some c) = refl
+  same-leader-renamed (Some b) None = refl
+  same-leader-renamed (Some b) (Some c) = eqb-to p c b
 
   pub no-leader-renamed : (l : Leader) → sameLeader (renameLeader (p .to) l) None ≡ sameLeader l None
   unfolding sameLeader names renameLeader
   no-leader-renamed None = refl
-  no-leader-renamed (Broker b) = refl
+  no-leader-renamed (Some b) = refl
 
   -- ---- the replicas of a renamed state: read at p(i), and put at p(i)
   replica-in-renamed : (replicas : List Replica) (i : ℕ) → length replicas ≡ 5
@@ -192,7 +205,7 @@ module _ {n : ℕ} (p : Renaming n) (five : n ≤ 5) where
         | yes h ↦
             sym
             (ext-table noReplica 5 g (set (table 5 f) (p .to i) v) (length-set (table 5 f) (p .to i) v ∙ length-table 5 f)
-            (λ j b. at h j b (ℕ-discrete j (p .to i))))
+            (λ j b. entry-is h j b (ℕ-discrete j (p .to i))))
         | no h ↦
             rw (p .keeps i (omega arith), set-out replicas i r (omega arith), set-out (table 5 f) i v (omega (arith, length-table 5 f)))
       ]
@@ -206,12 +219,12 @@ module _ {n : ℕ} (p : Renaming n) (five : n ≤ 5) where
       v : Replica
       v = renameReplica (p .to) (p .from) r
 
-      at : i < 5 → (j : ℕ) → j < 5 → Dec (j ≡ p .to i) → getD (set (table 5 f) (p .to i) v) j noReplica ≡ g j
-      at h j b (yes q) =
+      entry-is : i < 5 → (j : ℕ) → j < 5 → Dec (j ≡ p .to i) → getD (set (table 5 f) (p .to i) v) j noReplica ≡ g j
+      entry-is h j b (yes q) =
           rw (q, p .from-to i)
           (getD-set-same (table 5 f) (p .to i) v noReplica (omega (arith, length-table 5 f, to-below p 5 five i h))
           ∙ ap (renameReplica (p .to) (p .from)) (sym (getD-set-same replicas i r noReplica (omega arith))))
-      at h j b (no q) =
+      entry-is h j b (no q) =
           getD-set-other (table 5 f) (p .to i) j v noReplica q
           ∙ getD-table 5 f j noReplica b
           ∙ ap (renameReplica (p .to) (p .from))

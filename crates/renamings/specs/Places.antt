@@ -36,11 +36,11 @@ module _ {n : ℕ} (small : n ≤ 5) (p : Renaming n) where
       (record {
         within = λ i b h. rw (new-name-places i) (to-below p n (le-refl n) i b);
         others = λ i b h. new-name-places i ∙ p .keeps i b;
-        apart = λ i j h b e. apart i j b (sym (new-name-places i) ∙ e ∙ new-name-places j);
+        distinct = λ i j h b e. to-distinct i j b (sym (new-name-places i) ∙ e ∙ new-name-places j);
       })
     where
-      apart : (i j : ℕ) → j < i → p .to i ≡ p .to j → ⊥
-      apart i j b e = let z : i ≡ j = sym (p .from-to i) ∙ ap (p .from) e ∙ p .from-to j in omega arith
+      to-distinct : (i j : ℕ) → j < i → p .to i ≡ p .to j → ⊥
+      to-distinct i j b e = let z : i ≡ j = sym (p .from-to i) ∙ ap (p .from) e ∙ p .from-to j in omega arith
 
   old-name-places : (j : ℕ) → oldName (placesOf p) j ≡ p .from j
   old-name-places j =
@@ -61,41 +61,41 @@ state-five p s = ap₂ (λ (t f : ℕ → ℕ). renameState t f s) (fun-ext (new
 
 -- ---- one after the other
 module _ (n : ℕ) (small : n ≤ 5) (p q : List ℕ) (f : isRenaming n p ≡ true) (g : isRenaming n q ≡ true) where
-  abbrev both : Renaming n
-  both = compose (renamingOf n small p f) (renamingOf n small q g)
+  abbrev composite : Renaming n
+  composite = compose (renamingOf n small p f) (renamingOf n small q g)
 
   pub composed-renaming : isRenaming n (composed p q) ≡ true
   unfolding composed placesOf
-  composed-renaming = places-renaming small both
+  composed-renaming = places-renaming small composite
 
   pub composed-names : (i : ℕ) → newName (composed p q) i ≡ newName p (newName q i)
   unfolding composed placesOf
-  composed-names = new-name-places small both
+  composed-names = new-name-places small composite
 
-  pub composed-state : (s : State) → renameState (newName (composed p q)) (oldName (composed p q)) s ≡ renameState (both .to) (both .from) s
+  pub composed-state : (s : State) → renameState (newName (composed p q)) (oldName (composed p q)) s ≡ renameState (composite .to) (composite .from) s
   unfolding composed placesOf
-  composed-state = state-places small both
+  composed-state = state-places small composite
 
 -- ---- the inverse
 module _ (n : ℕ) (small : n ≤ 5) (p : List ℕ) (f : isRenaming n p ≡ true) where
-  abbrev back : Renaming n
-  back = inverse (renamingOf n small p f)
+  abbrev reversed : Renaming n
+  reversed = inverse (renamingOf n small p f)
 
   pub inverted-renaming : isRenaming n (inverted p) ≡ true
   unfolding inverted placesOf
-  inverted-renaming = places-renaming small back
+  inverted-renaming = places-renaming small reversed
 
   pub inverted-names : (i : ℕ) → newName (inverted p) (newName p i) ≡ i
   unfolding inverted placesOf
-  inverted-names i = new-name-places small back (newName p i) ∙ renamingOf n small p f .from-to i
+  inverted-names i = new-name-places small reversed (newName p i) ∙ renamingOf n small p f .from-to i
 
   pub names-inverted : (i : ℕ) → newName p (newName (inverted p) i) ≡ i
   unfolding inverted placesOf
-  names-inverted i = ap (newName p) (new-name-places small back i) ∙ renamingOf n small p f .to-from i
+  names-inverted i = ap (newName p) (new-name-places small reversed i) ∙ renamingOf n small p f .to-from i
 
   pub inverted-state : (s : State) → renameState (newName (inverted p)) (oldName (inverted p)) s ≡ renameState (oldName p) (newName p) s
   unfolding inverted placesOf
-  inverted-state = state-places small back
+  inverted-state = state-places small reversed
 
 -- ---- the words of the paper
 -- "the first R hold 0 to R-1 once each, the others their own number"
@@ -115,11 +115,11 @@ renaming-iff n p small = (
         once = λ i j k l e. sym (r .from-to i) ∙ ap (oldName p) e ∙ r .from-to j;
         own = λ i k l. r .keeps i k;
       }),
-  (λ r. distinct-by n p (record { within = λ i b h. r .below i b; others = r .own; apart = λ i j h b e. apart r i j h b e (decLt i n) (decLt j n) })),
+  (λ r. distinct-by n p (record { within = λ i b h. r .below i b; others = r .own; distinct = λ i j h b e. names-distinct r i j h b e (decLt i n) (decLt j n) })),
 )
   where
-    apart : HoldsOnce n p → (i j : ℕ) → i < 5 → j < i → newName p i ≡ newName p j → Dec (i < n) → Dec (j < n) → ⊥
-    apart r i j h b e (yes k) (yes l) = let z = r .once i j k l e in omega arith
-    apart r i j h b e (yes k) (no l) = omega arith
-    apart r i j h b e (no k) (yes l) = omega (arith, r .own i (omega arith) h, e, r .below j l)
-    apart r i j h b e (no k) (no l) = omega (arith, r .own i (omega arith) h, e, r .own j (omega arith) (omega arith))
+    names-distinct : HoldsOnce n p → (i j : ℕ) → i < 5 → j < i → newName p i ≡ newName p j → Dec (i < n) → Dec (j < n) → ⊥
+    names-distinct r i j h b e (yes k) (yes l) = let z = r .once i j k l e in omega arith
+    names-distinct r i j h b e (yes k) (no l) = omega arith
+    names-distinct r i j h b e (no k) (yes l) = omega (arith, r .own i (omega arith) h, e, r .below j l)
+    names-distinct r i j h b e (no k) (no l) = omega (arith, r .own i (omega arith) h, e, r .own j (omega arith) (omega arith))

@@ -27,13 +27,13 @@ module _ (s : State) (p : Renaming (replicaCount (s .limits))) (m : Met s) where
   abbrev t : State
   t = renameState (p .to) (p .from) s
 
-  at : (i : ℕ) → replicaAt t (p .to i) ≡ renameReplica (p .to) (p .from) (replicaAt s i)
-  at i = replica-renamed p (at-most-five s m) s i (fits s m .five)
+  replica-at : (i : ℕ) → replicaAt t (p .to i) ≡ renameReplica (p .to) (p .from) (replicaAt s i)
+  replica-at i = replica-renamed p (at-most-five s m) s i (fits s m .five)
 
   member-asked : (property : Property) (r i : ℕ) → member (isrAsked property t (p .to r)) (p .to i) ≡ member (isrAsked property s r) i
   unfolding isrAsked
   member-asked WeakIsr r i =
-      ap (λ (q : Replica). member (q .isr) (p .to i)) (at r) ∙ member-renamed p (at-most-five s m) (replicaAt s r .isr) i
+      ap (λ (q : Replica). member (q .isr) (p .to i)) (replica-at r) ∙ member-renamed p (at-most-five s m) (replicaAt s r .isr) i
   member-asked StrongIsr r i = member-renamed p (at-most-five s m) (s .quorum .isr) i
 
   -- what is asked about replicas of the one state is asked about the renamed ones of the other
@@ -41,30 +41,30 @@ module _ (s : State) (p : Renaming (replicaCount (s .limits))) (m : Met s) where
   asked-to property r i x a =
       record {
         replica = to-below p n (le-refl n) r (a .replica);
-        presumes = rw (at r, a .presumes) (unfold renameLeader in refl);
+        presumes = rw (replica-at r, a .presumes) (unfold renameLeader in refl);
         member = member-asked property r i ∙ a .member;
-        offset = rw (at r) (a .offset);
+        offset = rw (replica-at r) (a .offset);
       }
 
   held-to : (r i x : ℕ) → HoldSameRecord s r i x → HoldSameRecord t (p .to r) (p .to i) x
   held-to r i x h =
       record {
-        leader = record { replica = to-below p n (le-refl n) r (h .leader .replica); offset = rw (at r) (h .leader .offset) };
-        member = record { replica = to-below p n (le-refl n) i (h .member .replica); offset = rw (at i) (h .member .offset) };
-        record-same = rw (at r, at i) (h .record-same);
+        leader = record { replica = to-below p n (le-refl n) r (h .leader .replica); offset = rw (replica-at r) (h .leader .offset) };
+        member = record { replica = to-below p n (le-refl n) i (h .member .replica); offset = rw (replica-at i) (h .member .offset) };
+        record-same = rw (replica-at r, replica-at i) (h .record-same);
       }
 
 module _ (s : State) (p : Renaming (replicaCount (s .limits))) (m : Met s) where
   abbrev u : State
   u = renameState (p .to) (p .from) s
 
-  back : renameState (p .from) (p .to) u ≡ s
-  back = rename-back p (at-most-five s m) s (fits s m)
+  state-back : renameState (p .from) (p .to) u ≡ s
+  state-back = rename-back p (at-most-five s m) s (fits s m)
 
   holds-to : (property : Property) → Holds property s → Holds property u
   holds-to property h r i x a =
       let b : Asked property s (p .from r) (p .from i) x =
-      subst (λ (v : State). Asked property v (p .from r) (p .from i) x) back (asked-to u (inverse p) (met-renamed s m p) property r i x a) in
+      subst (λ (v : State). Asked property v (p .from r) (p .from i) x) state-back (asked-to u (inverse p) (met-renamed s m p) property r i x a) in
       rw (p .to-from r, p .to-from i) at (held-to s p m (p .from r) (p .from i) x (h (p .from r) (p .from i) x b))
 
 module _ (s : State) (p : Renaming (replicaCount (s .limits))) (m : Met s) where

@@ -9,7 +9,7 @@ use lib.Dec.{ltb}
 use Rattle.logic.specs.Table.{table}
 use Rattle.logic.specs.Refuse.{refuse, firstRefusal, byRefusal}
 use Rattle.parts.specs.declared.Leader.{Leader}
-use Rattle.parts.specs.declared.Leader.the-variants.{None, Broker}
+use Rattle.parts.specs.declared.Leader.the-variants.{None, Some}
 use Rattle.parts.specs.Refusal.{accepted, notRenaming}
 use Rattle.parts.specs.Isr.{member, isrOf}
 use Rattle.replica.specs.declared.Replica.{Replica}
@@ -29,7 +29,7 @@ use Rattle.renamings.specs.Names.{newName, oldName, isRenaming}
 -- a leader by its new name; none stays none
 unfoldable pub renameLeader : (ℕ → ℕ) → Leader → Leader
 renameLeader to None = None
-renameLeader to (Broker b) = Broker (to b)
+renameLeader to (Some b) = Some (to b)
 
 -- j is in the renamed ISR where the replica that is named j was in the ISR
 unfoldable pub renameIsr : (ℕ → ℕ) → ℕ → ℕ

@@ -1,5 +1,5 @@
 -- Demand 3 of states and actions, for every state that meets the rules and every five places that are a renaming of its
--- replicas: broker numbers are only names. Assumes nothing.
+-- replicas. "Broker numbers are only names." Assumes nothing.
 use Prim.Native.Nat.{ℕ, _≤_}
 use mathlib.Core.Path.{_≡_, refl, sym, ap, ap₂, _∙_, subst}
 use mathlib.Core.Bool.{true}
@@ -31,7 +31,7 @@ use Rattle.renamings.specs.Group.{rename-twice, rename-back}
 use Rattle.renamings.specs.ActRenamed.{act-renamed}
 use Rattle.renamings.specs.QuestionsRenamed.{holds-renamed, exposed-renamed}
 
--- ---- unused room and the rest of a state do not count for what is a renaming
+-- ---- what is a renaming of a state goes by R alone, so it is one of the tidy state and of the renamed state too
 pub renames-tidy : (s : State) (p : List ℕ) → Renames s p ↔ Renames (tidy s) p
 unfolding tidy
 renames-tidy s p = ((λ f. f), (λ f. f))
@@ -61,20 +61,20 @@ module _ (s : State) (h : rules s ≡ true) (p : List ℕ) (f : Renames s p) whe
   abbrev renamingBy : (q : List ℕ) → Renames s q → Renaming (replicaCount (tidy s .limits))
   renamingBy q g = renamingOf (replicaCount (tidy s .limits)) small q (renames-tidy s q .0 g)
 
-  abbrev on : Renaming (replicaCount (tidy s .limits))
-  on = renamingBy p f
+  abbrev renamingByP : Renaming (replicaCount (tidy s .limits))
+  renamingByP = renamingBy p f
 
-  under : Met (renamed p s)
+  renamed-met : Met (renamed p s)
   unfolding renamed
-  under = met-renamed (tidy s) met on
+  renamed-met = met-renamed (tidy s) met renamingByP
 
   -- a renaming keeps S1 to S7
   pub renamed-meets-rules : rules (renamed p s) ≡ true
-  renamed-meets-rules = under .rules
+  renamed-meets-rules = renamed-met .rules
 
   -- and puts zeros in unused room
   pub renamed-is-tidy : tidy (renamed p s) ≡ renamed p s
-  renamed-is-tidy = under .tidy
+  renamed-is-tidy = renamed-met .tidy
 
   -- R, L, M, X, next epoch and next id stay
   pub renamed-rest : (renamed p s .limits ≡ s .limits) × (nextLeaderEpoch (renamed p s) ≡ nextLeaderEpoch s) × (nextRecordId (renamed p s) ≡ nextRecordId s)
@@ -88,16 +88,16 @@ module _ (s : State) (h : rules s ≡ true) (p : List ℕ) (f : Renames s p) whe
 
   pub renamed-request : (e : ℕ) → requestAt (renamed p s) e ≡ renameRequest (newName p) (oldName p) (requestAt (tidy s) e)
   unfolding renamed
-  renamed-request = request-renamed on small (tidy s)
+  renamed-request = request-renamed renamingByP small (tidy s)
 
   -- "It gives replica p(i) the whole block of replica i"
   pub renamed-block : (i : ℕ) → replicaAt (renamed p s) (newName p i) ≡ renameReplica (newName p) (oldName p) (replicaAt (tidy s) i)
   unfolding renamed
-  renamed-block i = replica-renamed on small (tidy s) i (fits (tidy s) met .five)
+  renamed-block i = replica-renamed renamingByP small (tidy s) i (fits (tidy s) met .five)
 
-  -- "in every ISR .. it puts p(i) for i"
+  -- in an ISR p(i) stands for i: p(i) is in the renamed ISR exactly where i is in the ISR
   pub renamed-member : (isr i : ℕ) → member (renameIsr (oldName p) isr) (newName p i) ≡ member isr i
-  renamed-member = member-renamed on small
+  renamed-member = member-renamed renamingByP small
 
   -- an action of any four bytes: the renamed action on the renamed state gets the same number, and the state handed back is
   -- the first one's, renamed
@@ -112,7 +112,7 @@ module _ (s : State) (h : rules s ≡ true) (p : List ℕ) (f : Renames s p) whe
       (step-kept (tidy s) action (met .rules) (met .tidy) .tidy) in
       let here : act (renameState (newName p) (oldName p) (tidy s)) (renameAction (replicaCount (s .limits)) (newName p) action)
       ≡ actionAnswer (act (tidy s) action .refusal) (renameState (newName p) (oldName p) (act (tidy s) action .state)) =
-      unfold tidy in act-renamed (tidy s) on met action in
+      unfold tidy in act-renamed (tidy s) renamingByP met action in
       here
       ∙ ap₂ (λ (k : ℕ) (t : State). actionAnswer k (renameState (newName p) (oldName p) t)) (sym (equal .0)) (sym state)
 
@@ -120,25 +120,25 @@ module _ (s : State) (h : rules s ≡ true) (p : List ℕ) (f : Renames s p) whe
   pub renamed-holds : (property : Property) → askIsr property (renamed p s) .holds ≡ askIsr property s .holds
   unfolding renamed
   renamed-holds property =
-      holds-renamed (tidy s) on met property ∙ ap (λ (a : IsrAnswer). a .holds) (isr-same property (tidy s) s (tidy-same s))
+      holds-renamed (tidy s) renamingByP met property ∙ ap (λ (a : IsrAnswer). a .holds) (isr-same property (tidy s) s (tidy-same s))
 
   -- the greatest hw of a presuming replica is the same
   pub renamed-exposed : exposed (renamed p s) ≡ exposed s
   unfolding renamed
-  renamed-exposed = exposed-renamed (tidy s) on met ∙ exposed-same (tidy s) s small (tidy-same s)
+  renamed-exposed = exposed-renamed (tidy s) renamingByP met ∙ exposed-same (tidy s) s small (tidy-same s)
 
-  -- there and back
+  -- the inverse leads back to the state, tidy
   pub renamed-back : renamed (inverted p) (renamed p s) ≡ tidy s
   unfolding renamed
   renamed-back =
-      ap (renameState (newName (inverted p)) (oldName (inverted p))) (under .tidy)
+      ap (renameState (newName (inverted p)) (oldName (inverted p))) (renamed-met .tidy)
       ∙ inverted-state (replicaCount (tidy s .limits)) small p (renames-tidy s p .0 f) (renameState (newName p) (oldName p) (tidy s))
-      ∙ rename-back on small (tidy s) (fits (tidy s) met)
+      ∙ rename-back renamingByP small (tidy s) (fits (tidy s) met)
 
-  -- another renaming after it
+  -- first p and then q is one renaming
   pub renamed-twice : (q : List ℕ) → Renames s q → renamed q (renamed p s) ≡ renamed (composed q p) s
   unfolding renamed
   renamed-twice q g =
-      ap (renameState (newName q) (oldName q)) (under .tidy)
-      ∙ sym (rename-twice (renamingBy q g) on small (tidy s))
+      ap (renameState (newName q) (oldName q)) (renamed-met .tidy)
+      ∙ sym (rename-twice (renamingBy q g) renamingByP small (tidy s))
       ∙ sym (composed-state (replicaCount (tidy s .limits)) small q p (renames-tidy s q .0 g) (renames-tidy s p .0 f) (tidy s))

@@ -1,4 +1,10 @@
 -- A renamed state meets S1 to S7 exactly where the state does. Assumes nothing.
+--
+--   Fits s                            the state has five replicas, and each ISR is of five replicas
+--   within-renamed, in-range-renamed  an ISR, and a leader with it, is in range exactly where the renamed one is
+--   rule2-renamed .. rule7-renamed    each of S2 to S7 holds of the renamed state exactly where it holds of the state
+--   matches-renamed                   the part of S5 on a replica's epoch, leader and ISR
+--   rules-renamed                     all seven do; S1 reads nothing that a renaming changes
 use Prim.Native.Nat.{ℕ, zero, suc, _≤_, _<_, _^_}
 use mathlib.Core.Path.{_≡_, refl, sym, ap, ap₂, _∙_}
 use mathlib.Core.Bool.{Bool, not, _&&_, _||_}
@@ -28,7 +34,7 @@ pub record Fits (s : State) : Type 0 where
   pub replicas : (i : ℕ) → replicaAt s i .isr < 32
 
 module _ {n : ℕ} (p : Renaming n) (five : n ≤ 5) where
-  -- an ISR stays within the replicas, and none comes within them
+  -- an ISR is within the replicas exactly where the renamed one is
   within-renamed : (isr : ℕ) → isr < 32 → isrBelow n (renameIsr (p .from) isr) ≡ isrBelow n isr
   unfolding isrBelow
   within-renamed isr small =
@@ -64,8 +70,8 @@ module _ (s : State) (p : Renaming (replicaCount (s .limits))) (five : replicaCo
   abbrev t : State
   t = renameState (p .to) (p .from) s
 
-  at : (i : ℕ) → replicaAt t (p .to i) ≡ renameReplica (p .to) (p .from) (replicaAt s i)
-  at i = replica-renamed p five s i (fits .five)
+  replica-at : (i : ℕ) → replicaAt t (p .to i) ≡ renameReplica (p .to) (p .from) (replicaAt s i)
+  replica-at i = replica-renamed p five s i (fits .five)
 
   -- a test of every replica
   each-renamed : (f g : ℕ → Bool) → ((i : ℕ) → i < n → f (p .to i) ≡ g i) → allBelow n f ≡ allBelow n g
@@ -82,7 +88,7 @@ module _ (s : State) (p : Renaming (replicaCount (s .limits))) (five : replicaCo
       (every-cong _ _ _ _
       (each-renamed (replicaInRangeAt (s .limits) (t .replicas)) (replicaInRangeAt (s .limits) (s .replicas))
       (λ i h.
-      rw (at i)
+      rw (replica-at i)
       (ap (λ (b : Bool). leb (replicaAt s i .end) (logSize (s .limits)) && b)
       (in-range-renamed p five (replicaAt s i .leader) (replicaAt s i .isr) (fits .replicas i)))))
       refl))
@@ -119,7 +125,7 @@ module _ (s : State) (p : Renaming (replicaCount (s .limits))) (five : replicaCo
   rule5-renamed =
       each-renamed (replicaMeetsS5At (nextLeaderEpoch s) (t .requests) (t .replicas)) (replicaMeetsS5At (nextLeaderEpoch s) (s .requests) (s .replicas))
       (λ i h.
-      rw (at i)
+      rw (replica-at i)
       (every-cong _ _ _ _ (matches-renamed (replicaAt s i .epoch) (replicaAt s i .leader) (replicaAt s i .isr) (fits .replicas i))
       (every-cong _ _ _ _
       (ap₂ (λ (x y : Bool). not x || y) (names-renamed p five (replicaAt s i .leader) i) (member-renamed p five (replicaAt s i .isr) i))
@@ -129,16 +135,16 @@ module _ (s : State) (p : Renaming (replicaCount (s .limits))) (five : replicaCo
   unfolding rule6 logInUse
   rule6-renamed =
       each-renamed (logInUseAt (nextRecordId s) (nextLeaderEpoch s) (t .replicas)) (logInUseAt (nextRecordId s) (nextLeaderEpoch s) (s .replicas))
-      (λ i h. rw (at i) refl)
+      (λ i h. rw (replica-at i) refl)
 
   rule7-renamed : rule7 n (t .replicas) ≡ rule7 n (s .replicas)
   unfolding rule7 agreesWithAll logsAgree recordAgrees
   rule7-renamed =
       each-renamed (agreesAt n (t .replicas)) (agreesAt n (s .replicas))
       (λ i h.
-      rw (at i)
+      rw (replica-at i)
       (each-renamed (agreesWithAt (t .replicas) (renameReplica (p .to) (p .from) (replicaAt s i))) (agreesWithAt (s .replicas) (replicaAt s i))
-      (λ j l. rw (at j) refl)))
+      (λ j l. rw (replica-at j) refl)))
 
   -- a renaming keeps S1 to S7
   pub rules-renamed : rules t ≡ rules s

@@ -32,39 +32,39 @@ pub met-tidy : (s : State) → rules s ≡ true → Met (tidy s)
 met-tidy s h = record { rules = rules-tidy s ∙ h; tidy = tidy-twice s }
 
 module _ (s : State) (m : Met s) where
-  facts : Rules s
-  facts = rules-iff s .0 (m .rules)
+  rules-met : Rules s
+  rules-met = rules-iff s .0 (m .rules)
 
   pub at-most-five : replicaCount (s .limits) ≤ 5
   at-most-five = rules-bounded s (m .rules) .replicas
 
-  arrays : Tidy s
-  arrays = tidy-iff s .0 (m .tidy)
+  tidy-arrays : Tidy s
+  tidy-arrays = tidy-iff s .0 (m .tidy)
 
   request-isr : (e : ℕ) → Dec (e < nextLeaderEpoch s) → Dec (e < 16) → requestAt s e .isr < 32
-  request-isr e (yes l) b = below-32 _ _ at-most-five (facts .s2 .requests e l .within)
-  request-isr e (no l) (yes b) = omega (arith, ap (λ (q : Request). q .isr) (arrays .requests .unused e b (omega arith)))
+  request-isr e (yes l) b = below-32 _ _ at-most-five (rules-met .s2 .requests e l .within)
+  request-isr e (no l) (yes b) = omega (arith, ap (λ (q : Request). q .isr) (tidy-arrays .requests .unused e b (omega arith)))
   request-isr e (no l) (no b) =
-      let z : requestAt s e ≡ zeroRequest = List·getD-eq-default (s .requests) zeroRequest (omega (arith, arrays .requests .room)) in
+      let z : requestAt s e ≡ zeroRequest = List·getD-eq-default (s .requests) zeroRequest (omega (arith, tidy-arrays .requests .room)) in
       omega (arith, ap (λ (q : Request). q .isr) z)
 
   replica-isr : (i : ℕ) → Dec (i < replicaCount (s .limits)) → Dec (i < 5) → replicaAt s i .isr < 32
   replica-isr i (yes l) b = isr-small s (m .rules) i l
-  replica-isr i (no l) (yes b) = omega (arith, ap (λ (q : Replica). q .isr) (arrays .replicas .unused i b (omega arith)))
+  replica-isr i (no l) (yes b) = omega (arith, ap (λ (q : Replica). q .isr) (tidy-arrays .replicas .unused i b (omega arith)))
   replica-isr i (no l) (no b) =
-      let z : replicaAt s i ≡ noReplica = List·getD-eq-default (s .replicas) noReplica (omega (arith, arrays .replicas .room)) in
+      let z : replicaAt s i ≡ noReplica = List·getD-eq-default (s .replicas) noReplica (omega (arith, tidy-arrays .replicas .room)) in
       omega (arith, ap (λ (q : Replica). q .isr) z)
 
   pub fits : Fits s
   fits =
       record {
-        five = arrays .replicas .room;
+        five = tidy-arrays .replicas .room;
         quorum = quorum-isr-small s (m .rules);
         requests = λ e. request-isr e (decLt e (nextLeaderEpoch s)) (decLt e 16);
         replicas = λ i. replica-isr i (decLt i (replicaCount (s .limits))) (decLt i 5);
       }
 
--- ---- tidying goes with renaming
+-- ---- a state renamed and then tidied is the state tidied and then renamed
 tidy-replica-renamed : (to from : ℕ → ℕ) (q : Replica) → renameReplica to from (tidyReplica q) ≡ tidyReplica (renameReplica to from q)
 unfolding tidyReplica
 tidy-replica-renamed to from q = refl

@@ -54,7 +54,7 @@ fn is_new(p: [u8; 5], i: u8) -> bool
     true
 }
 
-// Both of them.
+// Whether place i passes both tests.
 fn place_fits(n: u8, p: [u8; 5], i: u8) -> bool
     ensures { λ r. ⌜ r ≡ inPlace n p i && isNew p i ⌝ }
 {

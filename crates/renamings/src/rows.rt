@@ -17,7 +17,7 @@ pub fn fitting_count(n: u8) -> usize
 }
 
 // The new name of replica j by row i of a part, as a row of n replicas. The caller shows that n is at most five, that there is such a
-// row, and that what it holds in its last n places is not below 5 - n.
+// row, and that what is read of it is not below 5 - n.
 fn last_place(part: &[u8; 120], n: u8, i: usize, j: u8) -> u8
     requires { ⌜ n ≤ 5 ⌝ }
     requires { ⌜ i < 24 ⌝ }

@@ -22,7 +22,7 @@ pub fn rename_leader(p: [u8; 5], leader: Leader) -> Leader
 {
     match leader {
         Leader::None => Leader::None,
-        Leader::Broker(b) => Leader::Broker(places::new_name(p, b)),
+        Leader::Some(b) => Leader::Some(places::new_name(p, b)),
     }
 }
 

@@ -127,8 +127,8 @@ const RENAMINGS: [u8; 600] = [
     4, 3, 2, 1, 0,
 ];
 
-// The 24 rows from row `first` on. The caller shows that there are so many. The whole table is stored where it is read, so rows are
-// taken out a part at a time, and read off that.
+// The 24 rows from row `first` on. The caller shows that there are so many. A function that reads the table has the whole of it on
+// its stack, so rows are taken out a part at a time, and read off that.
 pub fn part(first: usize) -> [u8; 120]
     requires { ⌜ first ≤ 96 ⌝ }
     ensures { λ r. ⌜ r ≡ partNumbers first ⌝ }

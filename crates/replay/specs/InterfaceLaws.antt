@@ -1,4 +1,18 @@
--- Laws of the interface, for its functions. Assumes nothing.
+-- Laws of the interface, for the functions: each shows by them that it returns and leaves what its reply says. Assumes nothing.
+--
+--   replies-refused                   the answer's own number refuses: it is returned, and `out` stays
+--   replies-short, replies-given      `out` is shorter than the answer, or gets it
+--   width-right                       bytes that widthRefusal does not refuse are 226
+--   on-state, on-state-replies        the reply to 226 bytes is that of their state
+--   on-state-refused, on-state-alone  bytes of any other count: the number is returned, `out` stays, and no length is answered
+--   five-places                       five places, taken one by one, are the list
+--   rename-five .. rename-uncounted   renaming by five places, and by any other count of them
+--   bool-byte                         whether a property holds, as a byte
+--   ImageReplies s out                writing an image answers what the interface returns and leaves
+--   image-replies                     it does so for every state and every buffer
+--   read-refuses, read-replies        reading an image that is refused by its bytes, and one whose parts are all there
+--   verdict-width                     a verdict has 250 bytes
+--   refused-leaves                    whatever refuses leaves `out` as it was
 use Prim.Native.Nat.{ℕ, zero, suc, _+_, _*_, _≤_, _<_}
 use mathlib.Core.Path.{_≡_, refl, sym, _∙_, ap, subst}
 use mathlib.Core.Bool.{Bool, true, false, cond}
@@ -39,11 +53,11 @@ pub replies-refused : (n : ℕ) (reply : Reply) (out : List ℕ) → (n ≡ acce
 unfolding number outAfter
 replies-refused n reply out h = rw (← by-refused n refuses reply h) (refl, refl)
 
--- it does not
+-- the answer's own number is 0
 reply-accepted : (n : ℕ) (reply : Reply) → n ≡ accepted → reply ≡ replyBy n reply
 reply-accepted n reply h = by-accepted n refuses reply h
 
--- the buffer is short, or holds the answer
+-- the buffer is shorter than the answer, or gets it
 module _ (n : ℕ) (bytes out : List ℕ) (h : n ≡ accepted) where
   pub replies-short : length out < length bytes → Replies (replyBy n (gives bytes)) out bufferShort out
   unfolding number outAfter
@@ -64,7 +78,7 @@ unfolding stateReply
 reply-refused n s t h = sym (by-refused n refuses (gives (flat s)) h) ∙ by-refused n refuses (gives (flat t)) h
 
 -- ---- a state that comes as bytes
--- it has 226
+-- bytes that are not refused are 226
 pub width-right : (state : List ℕ) → widthRefusal state ≡ accepted → length state ≡ flatWidth
 unfolding widthRefusal
 width-right state h =
@@ -74,7 +88,7 @@ width-right state h =
     let m = ltb-false flatWidth (length state) (b .0) in
     omega arith
 
--- the reply is that of its state
+-- the reply to them is that of their state
 pub on-state : (state : List ℕ) (reply : State → Reply) → widthRefusal state ≡ accepted → reply (stateOfFlat state) ≡ onState state reply
 unfolding onState
 on-state state reply h = reply-accepted (widthRefusal state) (reply (stateOfFlat state)) h
@@ -83,21 +97,21 @@ pub on-state-replies : (state : List ℕ) (reply : State → Reply) (given : Rep
     → widthRefusal state ≡ accepted → given ≡ reply (stateOfFlat state) → Replies given out n after → Replies (onState state reply) out n after
 on-state-replies state reply given out n after h e r = subst (λ (m : Reply). Replies m out n after) (e ∙ on-state state reply h) r
 
--- it has not
+-- bytes that are refused: their number is returned, and `out` stays
 pub on-state-refused : (state : List ℕ) (reply : State → Reply) (out : List ℕ) (n : ℕ) → n ≡ widthRefusal state → (n ≡ accepted → ⊥)
     → Replies (onState state reply) out n out
 unfolding onState
 on-state-refused state reply out n e h = rw e (replies-refused (widthRefusal state) (reply (stateOfFlat state)) out (λ z. h (e ∙ z)))
 
--- such an answer has no length
-alone : (n : ℕ) (reply : Reply) (out : List ℕ) → (n ≡ accepted → ⊥) → n ≡ numberAndLength (replyBy n reply) out
+-- and with no length: the number stands alone
+refused-number-alone : (n : ℕ) (reply : Reply) (out : List ℕ) → (n ≡ accepted → ⊥) → n ≡ numberAndLength (replyBy n reply) out
 unfolding numberAndLength number lengthWritten
-alone n reply out h = rw (← by-refused n refuses reply h) (omega arith)
+refused-number-alone n reply out h = rw (← by-refused n refuses reply h) (omega arith)
 
 pub on-state-alone : (state : List ℕ) (reply : State → Reply) (out : List ℕ) (n : ℕ) → n ≡ widthRefusal state → (n ≡ accepted → ⊥)
     → n ≡ numberAndLength (onState state reply) out
 unfolding onState
-on-state-alone state reply out n e h = rw e (alone (widthRefusal state) (reply (stateOfFlat state)) out (λ z. h (e ∙ z)))
+on-state-alone state reply out n e h = rw e (refused-number-alone (widthRefusal state) (reply (stateOfFlat state)) out (λ z. h (e ∙ z)))
 
 -- ---- places that come as bytes
 pub five-places : (l : List ℕ) → length l ≡ 5 → getD l 0 0 ∷ getD l 1 0 ∷ getD l 2 0 ∷ getD l 3 0 ∷ getD l 4 0 ∷ [] ≡ l
@@ -128,12 +142,12 @@ bool-byte true = refl
 bool-byte false = refl
 
 -- ---- images
--- what is written of an image, and its length, which is small
+-- what writing an image answers is what the interface returns and leaves; its number is a byte, and its length fits beside that
 pub record ImageReplies (s : State) (out : List ℕ) : Type 0 where
-  pub small : writeImage s out .length ≤ 227
-  pub few : writeImage s out .refusal ≤ 255
+  pub length-at-most : writeImage s out .length ≤ 227
+  pub number-is-byte : writeImage s out .refusal ≤ 255
   pub answer : writeImage s out .refusal + 256 * writeImage s out .length ≡ numberAndLength (imageReply s) out
-  pub after : bufferAfter s out ≡ outAfter (imageReply s) out
+  pub buffer-after : bufferAfter s out ≡ outAfter (imageReply s) out
 
 image-few : (s : State) (out : List ℕ) → writeImage s out .refusal ≤ 255
 unfolding every
@@ -155,10 +169,10 @@ image-replies s out = go (rules s) refl
     go false h =
         let w = writes-broken s out h in
         record {
-          small = rw (← (w .0)) (omega arith);
-          few = image-few s out;
+          length-at-most = rw (← (w .0)) (omega arith);
+          number-is-byte = image-few s out;
           answer = rw (← (w .0), image-refused s h) refl;
-          after = rw (← (w .1), image-refused s h) refl;
+          buffer-after = rw (← (w .1), image-refused s h) refl;
         }
     go true h =
         elim (decLt (length out) (length (image s))) [
@@ -166,24 +180,24 @@ image-replies s out = go (rules s) refl
               let w = writes-short s out h l in
               let t = lt-ltb (length out) (length (image s)) l in
               record {
-                small = rw (← (w .0)) (omega arith);
-                few = image-few s out;
+                length-at-most = rw (← (w .0)) (omega arith);
+                number-is-byte = image-few s out;
                 answer = rw (← (w .0), image-given s h, t) refl;
-                after = rw (← (w .1), image-given s h, t) refl;
+                buffer-after = rw (← (w .1), image-given s h, t) refl;
               }
           | no l ↦
               let k : length (image s) ≤ length out = omega arith in
               let w = writes-all s out h k in
               let t = le-ltb (length out) (length (image s)) k in
               record {
-                small = rw (← (w .0)) (image-most s h);
-                few = image-few s out;
+                length-at-most = rw (← (w .0)) (image-most s h);
+                number-is-byte = image-few s out;
                 answer = rw (← (w .0), image-given s h, t) refl;
-                after = rw (← (w .1), image-given s h, t) refl;
+                buffer-after = rw (← (w .1), image-given s h, t) refl;
               }
         ]
 
--- an image whose parts are not all there refuses
+-- an image that is refused by its bytes
 pub read-refuses : (bytes out : List ℕ) (n : ℕ) → n ≡ layoutRefusal bytes → (n ≡ accepted → ⊥) → Replies (outcomeReply (readImage bytes)) out n out
 unfolding stateReply
 read-refuses bytes out n e h =

@@ -20,7 +20,7 @@ const OFFER_WIDTH: usize = 3;
 
 const VERDICT_WIDTH: usize = 250;
 
-// A state, by the number that goes with it.
+// A state, where the number that goes with it is 0.
 pub(crate) fn give_state(refusal: u8, state: State, out: &mut [u8]) -> u8
     ensures { λ n. ⌜ Replies (stateReply refusal state) (now (out .entry)) n (now (out .exit)) ⌝ }
 {
@@ -69,7 +69,7 @@ pub(crate) fn give_offer(answer: OfferAnswer, out: &mut [u8]) -> u8
     ACCEPTED
 }
 
-// A number, low byte first. The caller shows that the buffer has room for four bytes.
+// A number as four bytes, low byte first. The caller shows that the buffer has room for them.
 fn put_number(out: &mut [u8], at: usize, n: usize) -> usize
     requires { ⌜ at + 4 ≤ length (now out) ⌝ }
     ensures { λ r. ⌜ Stored (now (out .entry)) at (numberBytes n) (now (out .exit)) r ⌝ }
@@ -104,7 +104,7 @@ fn put_verdict(out: &mut [u8], v: Verdict) -> usize
     put_state(&mut out[..], state, v.state)
 }
 
-// A verdict.
+// A verdict: its six numbers and its state. It has no number of its own that refuses.
 pub(crate) fn give_verdict(v: Verdict, out: &mut [u8]) -> u8
     ensures { λ n. ⌜ Replies (gives (verdictBytes v)) (now (out .entry)) n (now (out .exit)) ⌝ }
 {

@@ -3,7 +3,7 @@ pub mod Log
 pub mod Change
 pub mod ReplicaLaws
 pub mod LogLaws
-pub mod Marks
-pub mod MarkLaws
+pub mod Entries
+pub mod EntryLaws
 pub mod ReplicaBytes
 pub mod ReplicaBytesLaws

@@ -1,4 +1,4 @@
--- The bytes of a record and of a replica, as images and the flat form have them. "Per replica hw, epoch, leader, ISR, end, then
+-- The bytes of a record and of a replica, as images and the flat form have them: "per replica hw, epoch, leader, ISR, end, then
 -- (id, epoch) per record. One byte each". Assumes nothing.
 use Prim.Native.Nat.{ℕ}
 use mathlib.Core.List.{List, [], _∷_}
@@ -12,8 +12,8 @@ use Rattle.replica.specs.Replica.{recordAt}
 abbrev pub headWidth : ℕ
 headWidth = 5
 
-abbrev pub recordWidth : ℕ
-recordWidth = 2
+abbrev pub logRecordWidth : ℕ
+logRecordWidth = 2
 
 -- where a replica's end stands
 abbrev pub endPlace : ℕ
@@ -24,7 +24,7 @@ endPlace = 4
 abbrev pub recordBytes : Record → List ℕ
 recordBytes r = r .id ∷ epochByte (r .epoch) ∷ []
 
--- the record at offset x
+-- the bytes of the record at offset x
 abbrev pub recordBytesAt : Replica → ℕ → List ℕ
 recordBytesAt p x = recordBytes (recordAt p x)
 

@@ -9,13 +9,13 @@ use Rattle.replica.specs.declared.Replica.{Replica}
 use Rattle.replica.specs.Replica.{recordAt}
 use Rattle.replica.specs.LogLaws.{InUse}
 
--- a replica and the first n records of its log
+-- the epoch and the leader of a replica, and the epochs of the first n records of its log, fit
 pub record SmallReplica (n : ℕ) (p : Replica) : Type 0 where
   pub epoch : SmallEpoch (p .epoch)
   pub leader : SmallLeader (p .leader)
   pub log : (x : ℕ) → x < n → SmallEpoch (recordAt p x .epoch)
 
--- a record in use, where the next epoch is at most 16
+-- the epoch of a record in use fits, where the next epoch is at most 16
 pub in-use-small : (nextId next : ℕ) (r : Record) → next ≤ 16 → InUse nextId next r → SmallEpoch (r .epoch)
 in-use-small nextId next r h u = go (r .epoch) refl
   where

@@ -1,11 +1,11 @@
-// The bytes of records and replicas, put at a place of a lent buffer, where the place behind them is answered, and read at a place
-// of lent bytes. The caller of each function shows that the buffer has room for the part, or that the part is there.
+// The bytes of records and replicas, put at a place of a lent buffer, where the place behind them is answered, and read at a
+// place of lent bytes. The caller of each function shows that the buffer has room for the part, or that the part is there.
 ghost use mathlib.Core.Path.{_≡_};
 ghost use Prim.Native.Nat.{_+_, _≤_};
 ghost use lib.ListN.{length, drop};
 ghost use Rattle.logic.specs.Concat.{concatBelow};
 ghost use Rattle.logic.specs.Stores.{Stored};
-ghost use Rattle.replica.specs.ReplicaBytes.{recordWidth, recordBytes, recordBytesAt, replicaHeadBy, recordOf};
+ghost use Rattle.replica.specs.ReplicaBytes.{logRecordWidth, recordBytes, recordBytesAt, replicaHeadBy, recordOf};
 use crate::Record;
 use crate::Replica;
 use parts::bytes::put_bytes;
@@ -13,7 +13,7 @@ use parts::bytes::put_bytes;
 // How many bytes a replica without its log, and a record have.
 pub const HEAD_WIDTH: usize = 5;
 
-pub const RECORD_WIDTH: usize = 2;
+pub const LOG_RECORD_WIDTH: usize = 2;
 
 // Where a replica's end stands among its bytes.
 pub const END_PLACE: usize = 4;
@@ -55,7 +55,7 @@ pub fn put_head(out: &mut [u8], at: usize, p: Replica, leader: u8) -> usize
 
 // A record: id, epoch. The caller shows that its two bytes are there.
 pub fn record_of(bytes: &[u8], at: usize) -> Record
-    requires { ⌜ at + recordWidth ≤ length (now bytes) ⌝ }
+    requires { ⌜ at + logRecordWidth ≤ length (now bytes) ⌝ }
     ensures { λ r. ⌜ r ≡ recordOf (drop at (now (bytes .entry))) ⌝ }
 {
     let epoch = parts::epoch_of_byte(bytes[at + 1]);

@@ -7,10 +7,10 @@ ghost use mathlib.Core.List.{[], _∷_};
 ghost use Prim.Native.Nat.{_≤_, _<_};
 ghost use lib.Dec.{ltb};
 ghost use Rattle.logic.specs.Tests.{every};
-ghost use Rattle.logic.specs.Marks.{entry, Passed};
+ghost use Rattle.logic.specs.Entries.{entry, Passed};
 ghost use Rattle.replica.specs.Replica.{zeroRecord, zeroReplica, recordAt, tidyReplica};
 ghost use Rattle.replica.specs.Log.{recordInUse, logInUse, sameRecord};
-ghost use Rattle.replica.specs.Marks.{markOf, LogMet};
+ghost use Rattle.replica.specs.Entries.{offsetAndEpoch, LogMet};
 ghost use Rattle.replica.specs.Change.{withHw, withRequest, append, truncateTo, truncateUnder, becomeFollowerAndTruncateTo};
 use parts::Leader;
 
@@ -76,29 +76,29 @@ impl Record {
         self.same(other)
     }
 
-    // The mark of this record at offset x: records of one id agree (rule S7) exactly where their marks are equal. It is never
-    // 0. The caller shows that the offset is in the array.
-    fn mark(self, x: usize) -> u16
+    // The offset x, counted from 1, and this record's epoch as one number, which is never 0. Two records in use of one id agree
+    // (rule S7) exactly where their numbers are equal. The caller shows that the offset is in the array.
+    fn offset_and_epoch(self, x: usize) -> u16
         requires { ⌜ x < 16 ⌝ }
-        ensures { λ r. ⌜ r ≡ markOf self x ⌝ }
+        ensures { λ r. ⌜ r ≡ offsetAndEpoch self x ⌝ }
     {
         let epoch = parts::epoch_byte(self.epoch) as u16;
         (x as u16 + 1) * 256 + epoch
     }
 }
 
-// Whether no record of this id was seen before, or one with this mark. The table has the mark of each id seen, and 0 for each
-// other; this one's is put in it.
-fn meet(seen: &mut [u16; 256], id: u8, mark: u16) -> bool
-    ensures { λ r. ⌜ Passed (now (seen .entry)) (entry id mark ∷ []) r (now (seen .exit)) ⌝ }
+// Whether no entry of this id was seen before, or one with this value. The table has the value of each id seen, and 0 for each
+// other; where none of this id was seen, this value is put in it.
+fn meet(seen: &mut [u16; 256], id: u8, value: u16) -> bool
+    ensures { λ r. ⌜ Passed (now (seen .entry)) (entry id value ∷ []) r (now (seen .exit)) ⌝ }
 {
     let i = id as usize;
     let found = seen[i];
     if found == 0 {
-        seen[i] = mark;
+        seen[i] = value;
         return true;
     }
-    found == mark
+    found == value
 }
 
 impl Replica {
@@ -152,8 +152,8 @@ impl Replica {
     }
 
     // Rules S6 and S7 of the replica's log, given the records seen before it: each record is in use, and one of an id that was
-    // seen has the mark of that id. Where both hold, the table then has the marks of this log too; where one fails, nothing is said
-    // of the table. The caller shows that its end is in its array.
+    // seen stands at the offset and carries the epoch that the table has for that id. Where both hold, the table then has the
+    // entries of this log too; where one fails, nothing is said of the table. The caller shows that its end is in its array.
     pub fn log_meets_s6_s7(self, next_id: u8, next_epoch: u8, seen: &mut [u16; 256]) -> bool
         requires { ⌜ self .end ≤ 16 ⌝ }
         ensures { λ r. ⌜ LogMet «next_id» «next_epoch» self (now (seen .entry)) r (now (seen .exit)) ⌝ }
@@ -165,7 +165,7 @@ impl Replica {
             if !r.is_in_use(next_id, next_epoch) {
                 return false;
             }
-            if !meet(seen, r.id, r.mark(x)) {
+            if !meet(seen, r.id, r.offset_and_epoch(x)) {
                 return false;
             }
             x = x + 1;
@@ -233,7 +233,7 @@ impl Replica {
     {
         match leader {
             Leader::None => self,
-            Leader::Broker(_) => self.truncate_to(offset),
+            Leader::Some(_) => self.truncate_to(offset),
         }
     }
 

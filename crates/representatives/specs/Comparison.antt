@@ -1,5 +1,22 @@
 -- Lists of numbers compared from the front, with three answers: less, equal, greater. Their parts are compared one after the
 -- other: the first part that differs decides, and what stands behind it does not count. Assumes nothing.
+--
+--   compareNumbers x y                   two numbers compared
+--   andThen a b                          the answer a where it decides, else b
+--   decides a                            whether the answer a is not equal
+--   compareBytes xs ys                   two lists compared from the front
+--   decisionBelow n c                    the first of the answers c 0 to c (n - 1) that decides, or equal
+--   first-stands, next-stands            what andThen is where code finds that the first answer decides, or does not
+--   then-both                            where two answers together are equal, each is
+--   decision-none .. decision-passed     the turns of a loop that stops at the first answer that decides
+--   numbers-less .. equal-numbers        what compareNumbers says
+--   Begin xs ys o                        lists that begin with xs and ys compare as o, or where o is equal as what is behind them
+--   begin-whole                          xs and ys themselves compare as o
+--   begin-same .. begin-two              equal lists, one number each, and two numbers each
+--   begin-then, begin-concat             a part and the next, and n parts one after the other
+--   isLess a                             whether the answer a is less
+--   precedes-compare                     the answer is less exactly where the first list comes before the second
+--   says-less, says-equal, says-greater  when the answer is less, equal and greater
 use Prim.Native.Nat.{ℕ, zero, suc, _+_, _≤_, _<_}
 use mathlib.Core.Path.{_≡_, refl, sym, ap, ap₂, _∙_, subst}
 use mathlib.Core.Bool.{Bool, true, false, cond}
@@ -85,7 +102,7 @@ undecided Less h = absurd (true-false h)
 undecided Equal h = refl
 undecided Greater h = absurd (true-false h)
 
--- two answers that are equal together are equal each
+-- where two answers together are equal, each is
 pub then-both : (a b : Comparison) → andThen a b ≡ Equal → (a ≡ Equal) × (b ≡ Equal)
 unfolding andThen decides
 then-both Less b h = absurd (true-false (ap decides h))
@@ -151,7 +168,7 @@ equal-numbers x y e =
     (λ l. absurd (true-false (ap decides (sym (numbers-greater x y l) ∙ e))))
 
 -- ---- parts
--- xs and ys begin two lists with this answer: whatever comes behind them counts only where it is equal
+-- xs and ys begin two lists with this answer: whatever comes behind them counts only where the answer is equal
 pub record Begin (xs ys : List ℕ) (o : Comparison) : Type 0 where
   pub before : (us vs : List ℕ) → compareBytes (xs ++ us) (ys ++ vs) ≡ andThen o (compareBytes us vs)
 
@@ -186,7 +203,7 @@ begin-one x y = subst (Begin (x ∷ []) (y ∷ [])) (then-equal (compareNumbers 
 pub begin-two : (x y z w : ℕ) → Begin (x ∷ y ∷ []) (z ∷ w ∷ []) (andThen (compareNumbers x z) (compareNumbers y w))
 begin-two x y z w = begin-next x z (y ∷ []) (w ∷ []) (compareNumbers y w) (begin-one y w)
 
--- a part and the next; where the first decides, nothing need be known of the next, so it may fall out of step
+-- a part and the next; where the first decides, nothing need be known of the next, whose lengths may differ
 then-behind : (a b o next : Comparison) → (a ≡ Equal → next ≡ andThen b o) → andThen a next ≡ andThen (andThen a b) o
 unfolding andThen
 then-behind Less b o next h = refl

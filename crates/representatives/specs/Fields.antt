@@ -1,5 +1,21 @@
 -- Two renamings of a state compared field by field, with no image of either, and the proof that this answers what comparing their
 -- images answers. p and q are the five places of two renamings. Assumes nothing.
+--
+--   compareTwo x y z w                    x and then y compared with z and then w
+--   compareRecords r t                    two records: id, epoch
+--   compareLogs a b                       the logs of two replicas, record by record
+--   compareNamed p q l isr m other        leader l and isr by the names of p with leader m and other by those of q
+--   compareHeads p q a b                  two replicas without their logs
+--   compareReplicas p q a b               two replicas
+--   compareReplicasAt, compareRequestsAt  the replicas that p and q name j, and request e by both
+--   compareAllRequests s p q              the requests of s by p and by q
+--   compareAllReplicas s p q              the replicas of s, in the order of their new names by p and by q
+--   compareUnder s p q                    the state under p compared with the state under q, field by field
+--   named-begin .. image-begin            each part of the two images begins with the answer of its fields
+--   compare-images                        comparing the two images answers compareUnder
+--   precedes-under                        the one image comes before the other exactly where that answer is less
+--   less-iff, equal-iff, greater-iff      less, equal and greater, each exactly where the images are so
+--   log-same                              a log is equal to itself
 use Prim.Native.Nat.{ℕ, _≤_, _<_}
 use mathlib.Core.Path.{_≡_, refl, sym, ap, ap₂, _∙_, subst}
 use mathlib.Core.Bool.{true}
@@ -111,7 +127,7 @@ module _ (p q : List ℕ) where
       (leaderByte (renameLeader (newName q) (b .leader)) ∷ renameIsr (oldName q) (b .isr) ∷ []) _ _ _ _
       (named-begin (a .leader) (b .leader) (a .isr) (b .isr)) (λ k. begin-one (a .end) (b .end)))
 
-  -- heads that are equal have equal ends: an end that differs decides before the logs behind it fall out of step
+  -- heads that are equal have equal ends: logs of different lengths are not compared, since their ends decide before
   ends-equal : (a b : Replica) → compareHeads p q a b ≡ Equal → a .end ≡ b .end
   unfolding compareHeads
   ends-equal a b e = equal-numbers (a .end) (b .end) (then-both _ _ (then-both _ _ e .1) .1)

@@ -33,7 +33,7 @@ module _ (s : State) (h : rules s ≡ true) where
   least-fits =
       least-is (isRenaming (replicaCount (s .limits))) (imageUnder s) (Renames s) (row 0) rows (first-row (replicaCount (s .limits)) few) (λ p f. f)
 
-  -- "a representative is the state under one of its renamings"
+  -- the representative "is the state under one of its renamings"
   pub is-renamed : (p : List ℕ) × Renames s p × (representative s ≡ renamed p s)
   unfolding representative
   is-renamed = (leastRenaming s, least-fits, refl)
@@ -51,42 +51,42 @@ module _ (s : State) (h : rules s ≡ true) where
   -- "under every other renaming the image is equal or greater"
   pub equal-or-greater : (p : List ℕ) → Renames s p
       → (image (representative s) ≡ image (renamed p s)) ⊎ (precedes (image (representative s)) (image (renamed p s)) ≡ true)
-  equal-or-greater p f = by (precedes (image (representative s)) (image (renamed p s))) refl
+  equal-or-greater p f = by-precedes (precedes (image (representative s)) (image (renamed p s))) refl
     where
-      by : (b : Bool) → precedes (image (representative s)) (image (renamed p s)) ≡ b
+      by-precedes : (b : Bool) → precedes (image (representative s)) (image (renamed p s)) ≡ b
           → (image (representative s) ≡ image (renamed p s)) ⊎ (precedes (image (representative s)) (image (renamed p s)) ≡ true)
-      by true e = inr e
-      by false e = inl (not-before-antisymmetric (image (representative s)) (image (renamed p s)) (has-least-image p f) e)
+      by-precedes true e = inr e
+      by-precedes false e = inl (not-before-antisymmetric (image (representative s)) (image (renamed p s)) (has-least-image p f) e)
 
 -- ---- equal representatives
--- the images of tidy states that meet the rules tell them apart
-apart : (s t : State) → Met s → Met t → image s ≡ image t → s ≡ t
-apart s t m k e = sym (m .tidy) ∙ same-iff-tidy s t .0 (image-iff s t (m .rules) (k .rules) .0 e) ∙ k .tidy
+-- tidy states that meet the rules and have one image are one state
+image-one-to-one : (s t : State) → Met s → Met t → image s ≡ image t → s ≡ t
+image-one-to-one s t m k e = sym (m .tidy) ∙ same-iff-tidy s t .0 (image-iff s t (m .rules) (k .rules) .0 e) ∙ k .tidy
 
-good : (s : State) (p : List ℕ) → Met s → Renames s p → Met (renamed p s)
-good s p m f = record { rules = renamed-meets-rules s (m .rules) p f; tidy = renamed-is-tidy s (m .rules) p f }
+renamed-met : (s : State) (p : List ℕ) → Met s → Renames s p → Met (renamed p s)
+renamed-met s p m f = record { rules = renamed-meets-rules s (m .rules) p f; tidy = renamed-is-tidy s (m .rules) p f }
 
-after : (s : State) (p q : List ℕ) → Met s → Renames s p → Renames (renamed p s) q
+renamed-again : (s : State) (p q : List ℕ) → Met s → Renames s p → Renames (renamed p s) q
     → (r : List ℕ) × Renames s r × (renamed r s ≡ renamed q (renamed p s))
-after s p q m f g =
+renamed-again s p q m f g =
     let k = renames-renamed s p q .1 g in (
       composed q p,
       composed-renaming (replicaCount (s .limits)) (at-most-five s m) q p k f,
       sym (renamed-twice s (m .rules) p f q k),
     )
 
-back : (s : State) (p : List ℕ) → Met s → Renames s p → (q : List ℕ) × Renames (renamed p s) q × (renamed q (renamed p s) ≡ s)
-back s p m f = (
+renamed-undone : (s : State) (p : List ℕ) → Met s → Renames s p → (q : List ℕ) × Renames (renamed p s) q × (renamed q (renamed p s) ≡ s)
+renamed-undone s p m f = (
   inverted p,
   renames-renamed s p (inverted p) .0 (inverted-renaming (replicaCount (s .limits)) (at-most-five s m) p f),
   renamed-back s (m .rules) p f ∙ m .tidy,
 )
 
--- of tidy states
+-- tidy states have one representative exactly when some renaming turns one into the other
 tidy-representatives : (s t : State) → Met s → Met t
     → representative s ≡ representative t ↔ ((p : List ℕ) × Renames s p × (renamed p s ≡ t))
 tidy-representatives =
-    same-representative Met Renames renamed image representative good after back apart
+    same-representative Met Renames renamed image representative renamed-met renamed-again renamed-undone image-one-to-one
     (λ s m. is-renamed s (m .rules)) (λ s p m f. has-least-image s (m .rules) p f)
 
 -- the representative looks at no unused room
@@ -102,7 +102,7 @@ pub representative-tidy : (s : State) → representative (tidy s) ≡ representa
 unfolding representative
 representative-tidy s = ap (λ (p : List ℕ). renamed p (tidy s)) (least-tidy s) ∙ renamed-tidy s (leastRenaming s)
 
--- equal states have the same
+-- equal states have the same representative
 pub representative-same : (s t : State) → Same s t → representative s ≡ representative t
 representative-same s t m = sym (representative-tidy s) ∙ ap representative (same-iff-tidy s t .0 m) ∙ representative-tidy t
 

@@ -10,7 +10,7 @@ use Rattle.logic.specs.Concat.{concatBelow}
 use Rattle.logic.specs.Order.{precedes, precedes-irreflexive}
 use Rattle.logic.specs.Least.{better, leastFrom, least-turn, least-end, least-filtered, least-pass, better-not-before}
 use Rattle.parts.specs.declared.Leader.{Leader}
-use Rattle.parts.specs.declared.Leader.the-variants.{None, Broker}
+use Rattle.parts.specs.declared.Leader.the-variants.{None, Some}
 use Rattle.parts.specs.Leader.{leaderByte}
 use Rattle.cluster.specs.declared.State.{State}
 use Rattle.cluster.specs.State.{replicaCount}
@@ -69,7 +69,7 @@ module _ (s : State) (h : rules s ≡ true) where
       least-turn (isRenaming n) (imageUnder s) best [] (fittingRows n) k (omega (arith, fitting-count n few))
       ∙ ap (λ (p : List ℕ). leastFrom (isRenaming n) (imageUnder s) (better (isRenaming n) (imageUnder s) best p) (drop (k + 1) (fittingRows n))) (fitting-at n k few l)
 
-  -- row 0 is not better than itself
+  -- row 0 is not better than itself, so the search may start with row 1
   pub least-second : leastRenaming s ≡ leastBehind s firstRow 1
   least-second =
       let n = replicaCount (s .limits) in
@@ -102,14 +102,14 @@ leader-alike : (l : Leader) (p q : List ℕ) → newName p (leaderByte l) ≡ ne
     → leaderByte (renameLeader (newName p) l) ≡ leaderByte (renameLeader (newName q) l)
 unfolding leaderByte renameLeader
 leader-alike None p q e = refl
-leader-alike (Broker b) p q e = e
+leader-alike (Some b) p q e = e
 
 -- a leader that gets another name is a replica
 leader-low : (n : ℕ) → n ≤ 5 → (l : Leader) (p q : List ℕ) → isRenaming n p ≡ true → isRenaming n q ≡ true
     → leaderByte (renameLeader (newName q) l) < leaderByte (renameLeader (newName p) l) → leaderByte l < n
 unfolding leaderByte renameLeader
 leader-low n five None p q f g h = absurd (omega arith)
-leader-low n five (Broker b) p q f g h =
+leader-low n five (Some b) p q f g h =
     elim (decLt b n) [
       | yes d ↦ d
       | no d ↦

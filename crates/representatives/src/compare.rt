@@ -18,7 +18,7 @@ use renamings::state;
 use replica::Record;
 use replica::Replica;
 
-// The answer of a comparison.
+// The answer of a comparison: the first is less than the second, equal to it, or greater.
 pub enum Comparison {
     Less,
     Equal,
@@ -49,7 +49,7 @@ impl Comparison {
     }
 }
 
-// Two numbers.
+// Two numbers. Equality is tested first: that compiles to a branch that leaves at once.
 fn compare_numbers(x: u8, y: u8) -> Comparison
     ensures { λ r. ⌜ r ≡ compareNumbers x y ⌝ }
 {
@@ -191,7 +191,7 @@ fn compare_all_replicas(s: State, p: [u8; 5], q: [u8; 5]) -> Comparison
     Comparison::Equal
 }
 
-// The requests.
+// The requests, each by the names of p and by those of q.
 fn compare_all_requests(s: State, p: [u8; 5], q: [u8; 5]) -> Comparison
     requires { ⌜ rules s ≡ true ⌝ }
     requires { ⌜ Renames s p ⌝ }

@@ -23,7 +23,7 @@ fn digit(n: u8) -> u8
     b'A' + (n - 10)
 }
 
-// Bytes in hexadecimal.
+// Bytes in hexadecimal, two digits for each.
 fn hex(bytes: &[u8]) -> bool {
     let mut i: usize = 0;
     while i < bytes.len() {
@@ -48,7 +48,7 @@ fn image(s: State) -> bool {
     io::write_all(STDOUT_FILENO, b"none")
 }
 
-// The seven lines.
+// The seven lines of a verdict.
 pub(crate) fn verdict(v: Verdict) -> bool {
     line(b"accepted", v.tally.accepted)
         && line(b"refusal", v.refusal as usize)

@@ -1,4 +1,21 @@
 -- What is counted as a run is judged record by record, and the laws that it becomes the verdict of the whole run. Assumes nothing.
+--
+--   failedAt known holds count          when a property first failed: `known`; where that is 0, `count` if it fails now, else 0
+--   tallyAfter tally step               what is counted after one accepted step more
+--   acceptedStep action next            the step of an accepted action that hands back the state `next`
+--   tally-more                          tallyAfter gives the tally of the steps with one step more
+--   KnownOfState tally s                what the tally says of the state s that the run has reached
+--   Narrowed tally quorum next action   what it says of the next state: there the narrow test decides what has not failed
+--   known-begun, narrowed               KnownOfState holds of a first state, and gives Narrowed of the next one
+--   known-after                         and it holds of the state that a step hands back
+--   failed-before .. failed-now         what failedAt is, case by case
+--   verdictAt tally number at last      the verdict where the run stops
+--   resumed tally s trace               the verdict where it goes on from s with a trace
+--   runRecordHere run at                the record that starts at a byte of the run
+--   traceHere s at run                  the trace from the state s and that byte on
+--   fromHere tally s at run             the verdict from there on, with what is counted so far
+--   here-begun, here-end                fromHere at the first record, and at the run's end
+--   here-refused, here-on               fromHere at a record that is refused, and at one that is accepted
 use Prim.Native.Nat.{ℕ, zero, suc, _+_, _≤_, _<_, max}
 use mathlib.Core.Path.{_≡_, refl, sym, ap, ap₂, _∙_}
 use mathlib.Core.Bool.{Bool, true, false}
@@ -21,7 +38,7 @@ use Rattle.questions.specs.Doubt.{ReadsWithin, holdsAfterAction, exposesMore}
 use Rattle.questions.specs.DoubtTheorems.{reads-within, holds-after, exposes-no-more}
 use Rattle.runs.specs.declared.Tally.{Tally}
 use Rattle.runs.specs.declared.Verdict.{Verdict}
-use Rattle.runs.specs.Run.{configurationWidth, recordWidth, actionIn, actOn, recordsOf, Step, stepOn, handedBack, statesIn, Trace, traceBy, traceFrom, weakHolds, strongHolds, tallyOf, lastOf, verdictFrom}
+use Rattle.runs.specs.Run.{configurationWidth, runRecordWidth, actionIn, actOn, runRecordsOf, Step, stepOn, handedBack, statesIn, Trace, traceBy, traceFrom, weakHolds, strongHolds, tallyOf, lastOf, verdictFrom}
 use Rattle.runs.specs.TraceLaws.{trace-accepted, trace-refused}
 
 -- ---- one accepted step more
@@ -70,12 +87,12 @@ unfolding greatestOf
 greatest-more [] n = omega arith
 greatest-more (k ∷ l) n = omega (arith, greatest-more l n)
 
--- what is mapped, with one more
+-- what a function gives of the states, with one step more
 map-more : {B : Type 0} (f : State → B) (steps : List Step) (step : Step)
     → map f (statesIn (steps ++ step ∷ [])) ≡ map f (statesIn steps) ++ f (handedBack step) ∷ []
 map-more f steps step = ap (map f) (map-append handedBack steps (step ∷ [])) ∙ map-append f (statesIn steps) (handedBack step ∷ [])
 
--- the count at which a property first failed
+-- the count at which a property first failed, with one step more
 module _ (holds : State → Bool) (steps : List Step) (step : Step) where
   failed-more : firstFailing 1 (map holds (statesIn (steps ++ step ∷ [])))
       ≡ failedAt (firstFailing 1 (map holds (statesIn steps))) (holds (handedBack step)) (length steps + 1)
@@ -103,20 +120,20 @@ pub record KnownOfState (tally : Tally) (s : State) : Type 0 where
   pub strong : tally .strong ≡ 0 → strongHolds s ≡ true
   pub exposed : exposed s ≤ tally .exposed
 
--- so, of the state `next` that an action led to, by the quorum's ISR before the action: what the narrow test reads is there, it decides
--- weak and strong ISR where they have not failed, and a kind that cannot expose more does not
+-- of the state `next` that an action led to, by the quorum's ISR before the action: what the narrow test reads is there, it
+-- decides weak and strong ISR where they have not failed, and after a kind that cannot expose more the state exposes no more
 pub record Narrowed (tally : Tally) (quorumBefore : ℕ) (next : State) (action : Action) : Type 0 where
   pub within : ReadsWithin next action
   pub weak : tally .weak ≡ 0 → weakHolds next ≡ holdsAfterAction WeakIsr quorumBefore next action
   pub strong : tally .strong ≡ 0 → strongHolds next ≡ holdsAfterAction StrongIsr quorumBefore next action
   pub exposed : exposesMore (action .kind) ≡ false → exposed next ≤ tally .exposed
 
--- it begins so
+-- it is known of a first state of which weak and strong ISR hold
 pub known-begun : (s : State) → weakHolds s ≡ true → strongHolds s ≡ true → KnownOfState (tallyOf s []) s
 unfolding greatestOf
 known-begun s weak strong = record { weak = λ e. weak; strong = λ e. strong; exposed = omega arith }
 
--- what is known of a state gives that of the next
+-- what is known of a state gives that of the state that an accepted action leads to
 pub narrowed : (tally : Tally) (s : State) (action : Action) → KnownOfState tally s → rules s ≡ true → tidy s ≡ s
     → actionRefusal s action ≡ accepted → Narrowed tally (s .quorum .isr) (effect s action) action
 narrowed tally s action k h t ok =
@@ -134,7 +151,7 @@ failed-not zero true count h = refl
 failed-not zero false count h = absurd (omega arith)
 failed-not (suc before) holds count h = absurd (omega arith)
 
--- and what was counted gives what is known of it
+-- so what is counted after a step gives what is known of the state that it hands back
 pub known-after : (tally : Tally) (step : Step) → KnownOfState (tallyAfter tally step) (handedBack step)
 known-after tally step =
     record {
@@ -171,7 +188,7 @@ abbrev pub resumed : Tally → State → Trace → Verdict
 resumed tally s trace =
     verdictAt (foldl tallyAfter tally (trace .steps)) (trace .refusal) (trace .at) (lastOf s (statesIn (trace .steps)))
 
--- from the first state on it is the verdict of the whole: of the steps that are counted and those that follow
+-- the tally of steps done and steps that follow: that of the steps done, and then each step that follows is counted
 tally-steps : (first : State) (rest done : List Step) → tallyOf first (done ++ rest) ≡ foldl tallyAfter (tallyOf first done) rest
 tally-steps first [] done = ap (tallyOf first) (append-nil done)
 tally-steps first (step ∷ rest) done =
@@ -180,18 +197,18 @@ tally-steps first (step ∷ rest) done =
     ∙ ap (λ (tally : Tally). foldl tallyAfter tally rest) (tally-more first done step)
 
 -- the record at a place of the run, and the trace from there on
-abbrev pub recordHere : List ℕ → ℕ → List ℕ
-recordHere run at = take recordWidth (drop at run)
+abbrev pub runRecordHere : List ℕ → ℕ → List ℕ
+runRecordHere run at = take runRecordWidth (drop at run)
 
 abbrev pub traceHere : State → ℕ → List ℕ → Trace
-traceHere s at run = traceFrom s at (pieces recordWidth (drop at run))
+traceHere s at run = traceFrom s at (pieces runRecordWidth (drop at run))
 
 abbrev pub fromHere : Tally → State → ℕ → List ℕ → Verdict
 fromHere tally s at run = resumed tally s (traceHere s at run)
 
 -- at the first record it is the verdict of the run
 pub here-begun : (s : State) (run : List ℕ)
-    → verdictFrom s (traceFrom s configurationWidth (recordsOf run)) ≡ fromHere (tallyOf s []) s configurationWidth run
+    → verdictFrom s (traceFrom s configurationWidth (runRecordsOf run)) ≡ fromHere (tallyOf s []) s configurationWidth run
 here-begun s run =
     let trace : Trace = traceHere s configurationWidth run in
     ap (λ (tally : Tally). verdictAt tally (trace .refusal) (trace .at) (lastOf s (statesIn (trace .steps)))) (tally-steps s (trace .steps) [])
@@ -202,31 +219,31 @@ module _ (tally : Tally) (s : State) (at : ℕ) (run : List ℕ) where
   unfolding traceFrom lastOf
   here-end h =
       let none : length (drop at run) ≤ 0 = rw length-drop (omega arith) in
-      ap (λ (l : List (List ℕ)). resumed tally s (traceFrom s at l)) (sym (pieces-none recordWidth (drop at run) none))
+      ap (λ (l : List (List ℕ)). resumed tally s (traceFrom s at l)) (sym (pieces-none runRecordWidth (drop at run) none))
 
   -- where bytes are left: the next record, and then the rest
   trace-more : at < length run
       → traceHere s at run
-      ≡ traceBy at (stepOn s (recordHere run at))
-      (traceFrom (actOn s (recordHere run at) .state) (at + length (recordHere run at)) (pieces recordWidth (drop recordWidth (drop at run))))
+      ≡ traceBy at (stepOn s (runRecordHere run at))
+      (traceFrom (actOn s (runRecordHere run at) .state) (at + length (runRecordHere run at)) (pieces runRecordWidth (drop runRecordWidth (drop at run))))
   unfolding traceFrom
   trace-more h = ap (traceFrom s at) (pieces-more 5 (drop at run) (rw length-drop (omega arith)))
 
   -- a record that is refused
-  pub here-refused : at < length run → (actOn s (recordHere run at) .refusal ≡ accepted → ⊥)
-      → verdictAt tally (actOn s (recordHere run at) .refusal) at s ≡ fromHere tally s at run
+  pub here-refused : at < length run → (actOn s (runRecordHere run at) .refusal ≡ accepted → ⊥)
+      → verdictAt tally (actOn s (runRecordHere run at) .refusal) at s ≡ fromHere tally s at run
   unfolding lastOf
-  here-refused h refused = ap (resumed tally s) (sym (trace-more h ∙ trace-refused at (stepOn s (recordHere run at)) _ refused))
+  here-refused h refused = ap (resumed tally s) (sym (trace-more h ∙ trace-refused at (stepOn s (runRecordHere run at)) _ refused))
 
   -- one that is accepted, with all its bytes
-  pub here-on : at + recordWidth ≤ length run → actOn s (recordHere run at) .refusal ≡ accepted
+  pub here-on : at + runRecordWidth ≤ length run → actOn s (runRecordHere run at) .refusal ≡ accepted
       → fromHere tally s at run
-      ≡ fromHere (tallyAfter tally (stepOn s (recordHere run at))) (actOn s (recordHere run at) .state) (at + recordWidth) run
+      ≡ fromHere (tallyAfter tally (stepOn s (runRecordHere run at))) (actOn s (runRecordHere run at) .state) (at + runRecordWidth) run
   unfolding lastOf
   here-on h ok =
-      let step : Step = stepOn s (recordHere run at) in
+      let step : Step = stepOn s (runRecordHere run at) in
       let next : State = handedBack step in
-      let six : length (recordHere run at) ≡ recordWidth = length-take-le recordWidth (drop at run) (rw length-drop (omega arith)) in
+      let six : length (runRecordHere run at) ≡ runRecordWidth = length-take-le runRecordWidth (drop at run) (rw length-drop (omega arith)) in
       ap (resumed tally s) (trace-more (omega arith) ∙ trace-accepted at step _ ok)
-      ∙ ap₂ (λ (k : ℕ) (l : List ℕ). resumed (tallyAfter tally step) next (traceFrom next (at + k) (pieces recordWidth l)))
-      six (drop-drop recordWidth at run)
+      ∙ ap₂ (λ (k : ℕ) (l : List ℕ). resumed (tallyAfter tally step) next (traceFrom next (at + k) (pieces runRecordWidth l)))
+      six (drop-drop runRecordWidth at run)

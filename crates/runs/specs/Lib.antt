@@ -1,5 +1,5 @@
 pub mod Run
-pub mod RecordLaws
+pub mod RunRecordLaws
 pub mod Opening
 pub mod TraceLaws
 pub mod Judging

@@ -20,8 +20,8 @@ use Rattle.questions.specs.declared.Property.{Property}
 use Rattle.questions.specs.declared.IsrAnswer.{IsrAnswer}
 use Rattle.questions.specs.Isr.{askIsr}
 use Rattle.questions.specs.IsrTheorems.{fresh-holds}
-use Rattle.runs.specs.Run.{configurationWidth, longestRun, configurationMark, recordRefusal, configure, configurationOf, recordsOf, lengthRefusal, opening, Trace, traceFrom, verdictFrom, unopened, judgeBy, judge}
-use Rattle.runs.specs.RecordLaws.{record-short, record-whole}
+use Rattle.runs.specs.Run.{configurationWidth, longestRun, configurationMark, runRecordRefusal, configure, configurationOf, runRecordsOf, lengthRefusal, opening, Trace, traceFrom, verdictFrom, unopened, judgeBy, judge}
+use Rattle.runs.specs.RunRecordLaws.{run-record-short, run-record-whole}
 
 -- R, L, M and X as a run's configuration has them
 abbrev pub limitsIn : List ℕ → Limits
@@ -29,17 +29,17 @@ limitsIn run = limitsOf (configurationOf run)
 
 -- the number of the configuration's length and mark
 abbrev pub configurationRefusal : List ℕ → ℕ
-configurationRefusal run = recordRefusal configurationWidth configurationMark (configurationOf run)
+configurationRefusal run = runRecordRefusal configurationWidth configurationMark (configurationOf run)
 
 -- the state that a run opens with, and how far it goes from there
 abbrev pub firstState : List ℕ → State
 firstState run = opening run .state
 
 abbrev pub traceOf : List ℕ → Trace
-traceOf run = traceFrom (firstState run) configurationWidth (recordsOf run)
+traceOf run = traceFrom (firstState run) configurationWidth (runRecordsOf run)
 
 module _ (run : List ℕ) where
-  -- ---- where it is not accepted
+  -- ---- where the length or the configuration refuses
   -- the run is too long, or not; then its configuration answers
   pub opening-too-long : longestRun < length run → opening run ≡ withZeros runTooLong
   unfolding opening lengthRefusal
@@ -56,7 +56,7 @@ module _ (run : List ℕ) where
   pub opening-too-short : length run < configurationWidth → opening run ≡ withZeros tooShort
   unfolding configure
   opening-too-short h =
-      let e = record-short configurationMark (configurationOf run) configurationWidth (rw length-take (omega arith)) in
+      let e = run-record-short configurationMark (configurationOf run) configurationWidth (rw length-take (omega arith)) in
       opening-configures (omega arith)
       ∙ sym (by-refused _ withZeros (fresh (limitsIn run)) (λ q. let w : tooShort ≡ accepted = e ∙ q in omega arith))
       ∙ ap withZeros (sym e)
@@ -73,7 +73,7 @@ module _ (run : List ℕ) where
       ap (firstRefusal (lengthRefusal run)) (by-first (λ (o : Outcome). o .refusal) (configurationRefusal run) withZeros (fresh (limitsIn run)) (λ k. refl))
       ∙ by-first (λ (o : Outcome). o .refusal) (lengthRefusal run) withZeros (configure (configurationOf run)) (λ k. refl)
 
-  -- ---- where it is accepted
+  -- ---- where both are accepted
   module _ (ok : opening run .refusal ≡ accepted) where
     -- none of the three refuses
     length-accepted : lengthRefusal run ≡ accepted
@@ -91,7 +91,7 @@ module _ (run : List ℕ) where
     opening-long =
         omega (
           arith,
-          record-whole configurationMark (configurationOf run) configurationWidth .0 (configuration-accepted .0) .0,
+          run-record-whole configurationMark (configurationOf run) configurationWidth .0 (configuration-accepted .0) .0,
           length-take configurationWidth run,
         )
 

@@ -2,6 +2,26 @@
 -- a, b, e. Checks: over 65,532 bytes 25; then per record: fewer than six bytes 21 (also for an empty run), mark 20, configuration
 -- 22, then the action's number. Each record is judged on its own part of the input. .. It stops at the first refusal. The first
 -- action takes the configuration's fresh state, each later one the state that the one before handed back". Assumes nothing.
+--
+--   configurationWidth, runRecordWidth   how many bytes the configuration and the record of an action have: six each
+--   longestRun                           65,532, the most bytes that a run may have
+--   configurationMark, actionMark        the second byte of each mark
+--   markRefusal mark bytes               20 where the bytes have another mark, else 0
+--   runRecordRefusal width mark bytes    21 where there are fewer bytes than `width`, then markRefusal
+--   configure bytes                      what a configuration answers: its fresh state, or a refusal and zeros
+--   actionIn bytes                       the action of a record
+--   actOn s bytes                        what the record of an action answers on the state s
+--   configurationOf run                  the bytes of the run's configuration
+--   runRecordsOf run                     the records behind it
+--   opening run                          what the length and the configuration of the run answer
+--   Step, stepOn s bytes                 a record on the state s: its action and its answer
+--   statesIn steps                       the states that steps hand back
+--   Trace, traceFrom s at records        the accepted steps from s on, the refusal or 0, and the byte where the run stops
+--   tallyOf first steps                  what is counted over steps from a first state on
+--   lastOf s states                      the last of s and the states behind it
+--   verdictFrom first trace              the verdict of a trace from a first state on
+--   unopened number                      the verdict of a run that its length or its configuration refuses
+--   judge run                            the verdict of a run of bytes
 use Prim.Native.Nat.{ℕ, _+_}
 use mathlib.Core.Bool.{Bool, not}
 use mathlib.Core.List.{List, [], _∷_, map}
@@ -30,8 +50,8 @@ use Rattle.runs.specs.declared.Verdict.{Verdict}
 abbrev pub configurationWidth : ℕ
 configurationWidth = 6
 
-abbrev pub recordWidth : ℕ
-recordWidth = 6
+abbrev pub runRecordWidth : ℕ
+runRecordWidth = 6
 
 -- "over 65,532 bytes"
 abbrev pub longestRun : ℕ
@@ -44,18 +64,18 @@ configurationMark = 67
 abbrev pub actionMark : ℕ
 actionMark = 65
 
--- ---- a record
+-- ---- a record of a run
 -- "mark 20"
 unfoldable pub markRefusal : (mark : ℕ) → List ℕ → ℕ
 markRefusal mark bytes = refuse (not (marked mark bytes)) wrongMark accepted
 
 -- "fewer than six bytes 21 .., mark 20", by the width and the mark that the record has
-unfoldable pub recordRefusal : (width mark : ℕ) → List ℕ → ℕ
-recordRefusal width mark bytes = refuse (ltb (length bytes) width) tooShort (markRefusal mark bytes)
+unfoldable pub runRecordRefusal : (width mark : ℕ) → List ℕ → ℕ
+runRecordRefusal width mark bytes = refuse (ltb (length bytes) width) tooShort (markRefusal mark bytes)
 
 -- "4B 43, R, L, M, X": the fresh state, or 21, 20 or 22 and zeros
 unfoldable pub configure : List ℕ → Outcome
-configure bytes = byRefusal (recordRefusal configurationWidth configurationMark bytes) withZeros (fresh (limitsOf bytes))
+configure bytes = byRefusal (runRecordRefusal configurationWidth configurationMark bytes) withZeros (fresh (limitsOf bytes))
 
 -- "4B 41, kind, a, b, e"
 abbrev pub actionIn : List ℕ → Action
@@ -63,7 +83,7 @@ actionIn bytes = actionOf (byteAt bytes 2) (byteAt bytes 3) (byteAt bytes 4) (by
 
 -- the action's answer on the state before it, or 21 or 20 and that state
 unfoldable pub actOn : State → List ℕ → ActionAnswer
-actOn s bytes = byRefusal (recordRefusal recordWidth actionMark bytes) (refusedOn s) (act s (actionIn bytes))
+actOn s bytes = byRefusal (runRecordRefusal runRecordWidth actionMark bytes) (refusedOn s) (act s (actionIn bytes))
 
 -- ---- a run
 -- the part of it that holds its configuration
@@ -71,8 +91,8 @@ abbrev pub configurationOf : List ℕ → List ℕ
 configurationOf run = take configurationWidth run
 
 -- its records behind the configuration; the last may have fewer than six bytes
-abbrev pub recordsOf : List ℕ → List (List ℕ)
-recordsOf run = pieces recordWidth (drop configurationWidth run)
+abbrev pub runRecordsOf : List ℕ → List (List ℕ)
+runRecordsOf run = pieces runRecordWidth (drop configurationWidth run)
 
 -- "over 65,532 bytes 25"
 unfoldable pub lengthRefusal : List ℕ → ℕ
@@ -152,8 +172,8 @@ unfoldable pub lastOf : State → List State → State
 lastOf s [] = s
 lastOf s (t ∷ ts) = lastOf t ts
 
--- what is counted; "refusal or 0; byte where the refused record starts (input length if accepted ..)"; "the last state": from a
--- first state on
+-- from a first state on: what is counted; "refusal or 0; byte where the refused record starts (input length if accepted ..)"; "the
+-- last state"
 abbrev pub verdictFrom : State → Trace → Verdict
 verdictFrom first trace =
     record {
@@ -174,4 +194,4 @@ judgeBy o records =
 
 -- the verdict of a run of bytes
 unfoldable pub judge : List ℕ → Verdict
-judge run = judgeBy (opening run) (recordsOf run)
+judge run = judgeBy (opening run) (runRecordsOf run)

@@ -1,16 +1,16 @@
--- Where the first state of a trace meets the rules and is tidy, so does and is every state of it, with the same limits. Assumes
--- nothing.
+-- Where the first state of a trace meets the rules and is tidy, every state of it meets them, is tidy and has the same limits.
+-- Assumes nothing.
 use Prim.Native.Nat.{ℕ, _+_}
 use mathlib.Core.Path.{_≡_, sym}
 use mathlib.Core.List.{List, [], _∷_}
 use lib.ListN.{length}
 use Rattle.logic.specs.Each.{Each}
-use Rattle.logic.specs.Refuse.{by-accepted, by-refused, by-cases}
+use Rattle.logic.specs.Refuse.{by-accepted, by-refused, by-either}
 use Rattle.parts.specs.Refusal.{accepted}
 use Rattle.cluster.specs.declared.State.{State}
 use Rattle.actions.specs.Kept.{Kept, kept-after}
 use Rattle.runs.specs.Run.{actOn, Step, stepOn, handedBack, statesIn, Trace, stopped, stepThen, traceBy, traceFrom, lastOf}
-use Rattle.runs.specs.RecordLaws.{act-on-kept}
+use Rattle.runs.specs.RunRecordLaws.{act-on-kept}
 
 -- ---- by the answer of the first record
 module _ (at : ℕ) (step : Step) (rest : Trace) where
@@ -26,7 +26,7 @@ module _ (at : ℕ) (step : Step) (rest : Trace) where
   pub trace-cases : (P : Trace → Type 0) → (step .answer .refusal ≡ accepted → P (stepThen step rest))
       → ((step .answer .refusal ≡ accepted → ⊥) → P (stopped at (step .answer .refusal))) → P (traceBy at step rest)
   unfolding traceBy
-  trace-cases P = by-cases P (step .answer .refusal) (stopped at) (stepThen step rest)
+  trace-cases P = by-either P (step .answer .refusal) (stopped at) (stepThen step rest)
 
 -- ---- what a trace keeps
 -- a record hands back a state that keeps what s has, where the state before it does

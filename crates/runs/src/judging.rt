@@ -67,7 +67,7 @@ impl Tally {
         }
     }
 
-    // Before the first action. The caller shows that the fresh state meets the rules.
+    // What is counted before the first action. The caller shows that the fresh state meets the rules.
     pub(crate) fn begun(fresh: State) -> Tally
         requires { ⌜ rules fresh ≡ true ⌝ }
         ensures { λ r. ⌜ r ≡ tallyOf fresh [] ⌝ }

@@ -1,6 +1,6 @@
 // Judges a run: a configuration of six bytes, and then records of six bytes, each of an action.
 mod judging;
-mod record;
+mod run_record;
 
 ghost use mathlib.Core.Path.{_≡_};
 ghost use mathlib.Core.Bool.{true};
@@ -8,7 +8,7 @@ ghost use Prim.Native.Nat.{_≤_};
 ghost use lib.ListN.{length};
 ghost use Rattle.cluster.specs.State.{tidy};
 ghost use Rattle.cluster.specs.Rules.{rules};
-ghost use Rattle.runs.specs.Run.{configurationWidth, longestRun, recordsOf, traceFrom, weakHolds, strongHolds, verdictFrom, judge};
+ghost use Rattle.runs.specs.Run.{configurationWidth, longestRun, runRecordsOf, traceFrom, weakHolds, strongHolds, verdictFrom, judge};
 use cluster::State;
 use parts::refusal::ACCEPTED;
 use parts::refusal::RUN_TOO_LONG;
@@ -17,7 +17,7 @@ use parts::refusal::TOO_SHORT;
 // How many bytes the configuration has, and how many the record of an action.
 const CONFIGURATION_WIDTH: usize = 6;
 
-const RECORD_WIDTH: usize = 6;
+const RUN_RECORD_WIDTH: usize = 6;
 
 // The most bytes that a run may have.
 pub const LONGEST_RUN: usize = 65532;
@@ -51,7 +51,7 @@ pub fn judge(run: &[u8]) -> Verdict
     if run.len() < CONFIGURATION_WIDTH {
         return Verdict::unopened(TOO_SHORT);
     }
-    let first = record::configure(&run[0..CONFIGURATION_WIDTH]);
+    let first = run_record::configure(&run[0..CONFIGURATION_WIDTH]);
     if first.refusal != ACCEPTED {
         return Verdict::unopened(first.refusal);
     }
@@ -69,16 +69,16 @@ fn judge_actions(run: &[u8], fresh: State) -> Verdict
     requires { ⌜ tidy fresh ≡ fresh ⌝ }
     requires { ⌜ weakHolds fresh ≡ true ⌝ }
     requires { ⌜ strongHolds fresh ≡ true ⌝ }
-    ensures { λ r. ⌜ r ≡ verdictFrom fresh (traceFrom fresh configurationWidth (recordsOf (now (run .entry)))) ⌝ }
+    ensures { λ r. ⌜ r ≡ verdictFrom fresh (traceFrom fresh configurationWidth (runRecordsOf (now (run .entry)))) ⌝ }
 {
     let mut state = fresh;
     let mut at = CONFIGURATION_WIDTH;
     let mut tally = Tally::begun(fresh);
     while at < run.len() {
-        if run.len() - at < RECORD_WIDTH {
+        if run.len() - at < RUN_RECORD_WIDTH {
             return tally.verdict(TOO_SHORT, at, state);
         }
-        let record = record::read_action(&run[at..at + RECORD_WIDTH]);
+        let record = run_record::read_action(&run[at..at + RUN_RECORD_WIDTH]);
         let refusal = record.refusal_on(state);
         if refusal != ACCEPTED {
             return tally.verdict(refusal, at, state);
@@ -86,7 +86,7 @@ fn judge_actions(run: &[u8], fresh: State) -> Verdict
         let quorum = state.quorum;
         state = state.effect(record.action);
         tally = tally.after(quorum.isr, state, record.action);
-        at = at + RECORD_WIDTH;
+        at = at + RUN_RECORD_WIDTH;
     }
     tally.verdict(ACCEPTED, at, state)
 }

@@ -1,12 +1,23 @@
 -- The marked examples 1 to 9, each on the verdict of a run of bytes, computed from the definitions together. Assumes nothing.
+--
+--   configuration R L M X           the six bytes of a configuration
+--   action kind a b e               the six bytes of the record of an action
+--   shrink a .. replicateFrom a b   such records of the kinds 0 to 4, 7 and 8
+--   verdict records                 the verdict of the run of these records
+--   numbers records                 its six numbers: accepted, refusal, at, weak, strong, exposed
+--   paperRun                        the run of example 1
+--   exchanged s                     s with the blocks of replicas 1 and 2 exchanged
+--   MarkedExamples                  the marked examples 1 to 9, as one statement
+--   marked-examples                 its proof, by computing
 use Prim.Native.Nat.{ℕ}
 use mathlib.Core.Path.{_≡_, refl}
 use mathlib.Core.List.{List, [], _∷_, flatten}
+use mathlib.Core.Option.{orElse}
 use Rattle.logic.specs.Tests.{allBelow, every, firstFailing}
 use Rattle.logic.specs.Table.{table, tableFrom}
 use Rattle.logic.specs.Refuse.{refuse, firstRefusal, byRefusal}
 use Rattle.logic.specs.Greatest.{greatestBelow, greatestOf}
-use Rattle.logic.specs.Search.{orElse, firstBelow, passing, firstThird, firstSecond, firstTriple}
+use Rattle.logic.specs.Search.{firstBelow, passing, firstThird, firstSecond, firstTriple}
 use Rattle.logic.specs.Pieces.{piecesUpTo, pieces}
 use Rattle.parts.specs.declared.Leader.the-variants.{None}
 use Rattle.parts.specs.Mark.{markFirst, marked}
@@ -28,7 +39,7 @@ use Rattle.images.specs.ImageExample.{paperReplica, paperState}
 use Rattle.representatives.specs.Representative.{representative}
 use Rattle.representatives.specs.RepresentativeExample.{example-representative}
 use Rattle.runs.specs.declared.Verdict.{Verdict}
-use Rattle.runs.specs.Run.{configurationMark, actionMark, markRefusal, recordRefusal, configure, actOn, lengthRefusal, opening, traceBy, traceFrom, lastOf, judgeBy, judge}
+use Rattle.runs.specs.Run.{configurationMark, actionMark, markRefusal, runRecordRefusal, configure, actOn, lengthRefusal, opening, traceBy, traceFrom, lastOf, judgeBy, judge}
 
 -- ---- the records of the examples, in their words
 -- "4B 43, R, L, M, X"
@@ -48,7 +59,7 @@ elect a = action 1 a 0 0
 abbrev pub leader : ℕ → List ℕ
 leader e = action 2 0 0 e
 
--- "follower a with e"
+-- follower a with e
 abbrev pub follower : ℕ → ℕ → List ℕ
 follower a e = action 3 a 0 e
 
@@ -58,9 +69,9 @@ write a = action 4 a 0 0
 abbrev pub advance : ℕ → List ℕ
 advance a = action 7 a 0 0
 
--- "replicate a from b"
-abbrev pub replicate : ℕ → ℕ → List ℕ
-replicate a b = action 8 a b 0
+-- replicate a from b
+abbrev pub replicateFrom : ℕ → ℕ → List ℕ
+replicateFrom a b = action 8 a b 0
 
 -- ---- a run of such records
 -- the verdict of their bytes
@@ -75,7 +86,7 @@ numbers records =
 
 -- the run of example 1
 abbrev pub paperRun : List (List ℕ)
-paperRun = configuration 3 4 4 3 ∷ elect 0 ∷ leader 0 ∷ follower 1 0 ∷ follower 2 0 ∷ write 0 ∷ replicate 1 0 ∷ advance 0 ∷ []
+paperRun = configuration 3 4 4 3 ∷ elect 0 ∷ leader 0 ∷ follower 1 0 ∷ follower 2 0 ∷ write 0 ∷ replicateFrom 1 0 ∷ advance 0 ∷ []
 
 -- the state with the blocks of replicas 1 and 2 exchanged, and nothing else changed
 abbrev pub exchanged : State → State
@@ -102,12 +113,12 @@ pub record MarkedExamples : Type 0 where
   pub two : representative (verdict paperRun .state) ≡ exchanged (verdict paperRun .state)
   -- 3. "insert 4B4108020000 before its last record: all 8 accepted, exposed 1"
   pub three : numbers
-      (configuration 3 4 4 3 ∷ elect 0 ∷ leader 0 ∷ follower 1 0 ∷ follower 2 0 ∷ write 0 ∷ replicate 1 0 ∷ replicate 2 0 ∷ advance 0 ∷ [])
+      (configuration 3 4 4 3 ∷ elect 0 ∷ leader 0 ∷ follower 1 0 ∷ follower 2 0 ∷ write 0 ∷ replicateFrom 1 0 ∷ replicateFrom 2 0 ∷ advance 0 ∷ [])
       ≡ 8 ∷ 0 ∷ 54 ∷ 0 ∷ 0 ∷ 1 ∷ []
-  -- 4. "R=2, L=4, M=4, X=3: elect 0, leader 0, follower 1 with 0, write 0, replicate 1 from 0, advance 0, elect 1, elect 0, follower 1
-  -- with 2: all 9 accepted, weak 9, strong 9, exposed 1"
+  -- 4. "R=2, L=4, M=4, X=3: elect 0, leader 0, follower 1 with 0, write 0, replicate 1 from 0, advance 0, elect 1, elect 0,
+  -- follower 1 with 2: all 9 accepted, weak 9, strong 9, exposed 1"
   pub four : numbers
-      (configuration 2 4 4 3 ∷ elect 0 ∷ leader 0 ∷ follower 1 0 ∷ write 0 ∷ replicate 1 0 ∷ advance 0 ∷ elect 1 ∷ elect 0 ∷ follower 1 2 ∷ [])
+      (configuration 2 4 4 3 ∷ elect 0 ∷ leader 0 ∷ follower 1 0 ∷ write 0 ∷ replicateFrom 1 0 ∷ advance 0 ∷ elect 1 ∷ elect 0 ∷ follower 1 2 ∷ [])
       ≡ 9 ∷ 0 ∷ 60 ∷ 9 ∷ 9 ∷ 1 ∷ []
   -- 5. "the same run to action 3, then follower 1 with 0 again: refused 9"
   pub five : numbers (configuration 2 4 4 3 ∷ elect 0 ∷ leader 0 ∷ follower 1 0 ∷ follower 1 0 ∷ []) ≡ 3 ∷ 9 ∷ 24 ∷ 0 ∷ 0 ∷ 0 ∷ []
@@ -120,13 +131,13 @@ pub record MarkedExamples : Type 0 where
   pub seven-leader : verdict (configuration 1 4 4 3 ∷ elect 0 ∷ shrink 0 ∷ []) .state .quorum .leader ≡ None
   pub seven-isr : verdict (configuration 1 4 4 3 ∷ elect 0 ∷ shrink 0 ∷ []) .state .quorum .isr ≡ 1
   -- 8. "configuration of 6, elect 0, leader 0, then replicate 0 from 0: 19; in its place advance 0: 17"
-  pub eight : numbers (configuration 1 4 4 3 ∷ elect 0 ∷ leader 0 ∷ replicate 0 0 ∷ []) ≡ 2 ∷ 19 ∷ 18 ∷ 0 ∷ 0 ∷ 0 ∷ []
+  pub eight : numbers (configuration 1 4 4 3 ∷ elect 0 ∷ leader 0 ∷ replicateFrom 0 0 ∷ []) ≡ 2 ∷ 19 ∷ 18 ∷ 0 ∷ 0 ∷ 0 ∷ []
   pub eight-advance : numbers (configuration 1 4 4 3 ∷ elect 0 ∷ leader 0 ∷ advance 0 ∷ []) ≡ 2 ∷ 17 ∷ 18 ∷ 0 ∷ 0 ∷ 0 ∷ []
   -- 9. "R=2, L=4, M=4, X=0, fresh, elect 0 accepted, shrink 0 then 4"
   pub nine : numbers (configuration 2 4 4 0 ∷ elect 0 ∷ shrink 0 ∷ []) ≡ 1 ∷ 4 ∷ 12 ∷ 0 ∷ 0 ∷ 0 ∷ []
 
 pub marked-examples : MarkedExamples
-unfolding judge judgeBy lastOf traceFrom traceBy opening lengthRefusal actOn configure recordRefusal markRefusal paperState
+unfolding judge judgeBy lastOf traceFrom traceBy opening lengthRefusal actOn configure runRecordRefusal markRefusal paperState
     paperReplica exposed askIsr checkIsr isrAnswerOf smallestFailure differAt offsetsAsked isrAsked fresh limitsRefusal
     freshState act refusal answerBy effect actionRefusal tableEffect tableRefusal operandsFit operandBounds operandBound uses
     kindOf followerReplicate followerReplicateRefusal leaderIncHighWatermark leaderIncHighWatermarkRefusal memberHasHw

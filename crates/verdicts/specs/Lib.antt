@@ -3,6 +3,6 @@ pub mod TraceRenamed
 pub mod RunRenamed
 pub mod RunBehaviour
 pub mod RunProperties
-pub mod VerdictLaws
+pub mod VerdictTheorems
 pub mod Examples
 pub mod RenameExample

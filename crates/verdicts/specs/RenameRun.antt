@@ -12,19 +12,19 @@ use Rattle.cluster.specs.declared.ActionAnswer.{ActionAnswer}
 use Rattle.cluster.specs.State.{replicaCount}
 use Rattle.cluster.specs.Act.{actionAnswer}
 use Rattle.runs.specs.declared.Verdict.{Verdict}
-use Rattle.runs.specs.Run.{recordWidth, actionMark, recordRefusal, actionIn, configurationOf, recordsOf, opening, Step, Trace}
+use Rattle.runs.specs.Run.{runRecordWidth, actionMark, runRecordRefusal, actionIn, configurationOf, runRecordsOf, opening, Step, Trace}
 use Rattle.renamings.specs.Names.{newName, isRenaming}
 use Rattle.renamings.specs.Rename.{renameAction, renamed}
 
 -- ---- a record
--- the bytes of an action with the operands a and b put anew, which are bytes 3 and 4
+-- the bytes of the record of an action, with the operands a and b of another action, which are bytes 3 and 4
 abbrev pub withOperands : List ℕ → Action → List ℕ
 withOperands bytes action = set (set bytes 3 (action .a)) 4 (action .b)
 
 -- a record of n replicas: where it is whole, used replica operands below n are renamed; any other stays
-unfoldable pub renameRecord : ℕ → (ℕ → ℕ) → List ℕ → List ℕ
-renameRecord n to bytes =
-    byRefusal (recordRefusal recordWidth actionMark bytes) (λ number. bytes) (withOperands bytes (renameAction n to (actionIn bytes)))
+unfoldable pub renameRunRecord : ℕ → (ℕ → ℕ) → List ℕ → List ℕ
+renameRunRecord n to bytes =
+    byRefusal (runRecordRefusal runRecordWidth actionMark bytes) (λ number. bytes) (withOperands bytes (renameAction n to (actionIn bytes)))
 
 -- ---- a run
 -- the R of the run's configuration
@@ -32,13 +32,13 @@ abbrev pub replicasOf : List ℕ → ℕ
 replicasOf run = replicaCount (opening run .state .limits)
 
 -- its records, renamed
-abbrev pub renamedRecords : List ℕ → List ℕ → List (List ℕ)
-renamedRecords p run = map (renameRecord (replicasOf run) (newName p)) (recordsOf run)
+abbrev pub renamedRunRecords : List ℕ → List ℕ → List (List ℕ)
+renamedRunRecords p run = map (renameRunRecord (replicasOf run) (newName p)) (runRecordsOf run)
 
 -- the run under the five places p: the configuration stays, and behind it are the records, renamed; where the configuration is not
 -- accepted, the run stays
 unfoldable pub renameRun : List ℕ → List ℕ → List ℕ
-renameRun p run = byRefusal (opening run .refusal) (λ number. run) (configurationOf run ++ flatten (renamedRecords p run))
+renameRun p run = byRefusal (opening run .refusal) (λ number. run) (configurationOf run ++ flatten (renamedRunRecords p run))
 
 -- p is a renaming of the run's R; where no configuration is accepted, of any R from 1 to 5
 pub record RenamesRun (run p : List ℕ) : Type 0 where

@@ -1,7 +1,26 @@
--- What a run is: by which number its length and its configuration refuse it; where they do not, its accepted records, from the first
--- on, are accepted actions from the fresh state, so its states are a finite behaviour of the published model, and each record's own
--- action joins two of them; it ends with its last record, or at a record that is refused; where that has six bytes and the mark, the
--- model does not allow its action. Assumes nothing.
+-- What a run is: by which number its length and its configuration refuse it; where they do not, its accepted records, from the
+-- first on, are accepted actions from the fresh state, so its states are a finite behaviour of the published model, and each
+-- record's own action joins two of them; it ends with its last record, or at a record that is refused; where that has six bytes
+-- and the mark, the model does not allow its action. Assumes nothing.
+--
+--   Whole bytes                   these are a record of an action, with its six bytes and the mark
+--   stepsAfter s actions          the steps of actions one after another, from s on
+--   opening-is                    by which number a run does not open, on its own bytes
+--   opens-fresh, opens-with       it opens with the fresh state of R, L, M and X, which are its bytes 2 to 5
+--   runRecordAt run k             record k behind the configuration, the first with number 0
+--   acceptedActions run           the actions of its accepted records
+--   nextRunRecord run             the record behind the accepted ones
+--   statesOf run, stateAt run n   its states, the first one with number 0; the state of number n
+--   constantsIn run               the published constants, as its configuration has them
+--   Joins run k                   record k is six bytes of the run with the action mark, its action joins the states k and k + 1
+--   steps-are, states-are         its steps and its states are those of its accepted actions
+--   state-kept, last-kept         each of its states meets S1 to S7, is tidy, and has the limits of the first
+--   run-is-behaviour              its states are a finite behaviour of the published model
+--   run-record-joins              Joins holds of every accepted record
+--   last-state, reached           the verdict's state is the last of its states
+--   at-behind                     it stops behind the bytes of its accepted records
+--   all-accepted, next-refused    not refused, it has accepted every record; refused, its next record answers the refusal
+--   refused-not-allowed           the model does not allow the action of a refused record that has six bytes and the mark
 use Prim.Native.Nat.{ℕ, zero, suc, _+_, _*_, _≤_, _<_}
 use mathlib.Core.Path.{_≡_, refl, sym, ap, ap₂, _∙_}
 use mathlib.Core.Bool.{Bool, true, false, not}
@@ -36,8 +55,8 @@ use Rattle.published.specs.Choices.{Choice}
 use Rattle.published.specs.Engine.{action-is-published}
 use Rattle.published.specs.Behaviours.{AllAccepted, statesAfter, sequence-is-behaviour}
 use Rattle.runs.specs.declared.Verdict.{Verdict}
-use Rattle.runs.specs.Run.{configurationWidth, recordWidth, longestRun, configurationMark, actionMark, markRefusal, recordRefusal, actionIn, actOn, configurationOf, recordsOf, lengthRefusal, opening, Step, stepOn, handedBack, statesIn, Trace, traceBy, traceFrom, lastOf, judge}
-use Rattle.runs.specs.RecordLaws.{record-whole, whole-acts, accepted-whole, accepted-acts}
+use Rattle.runs.specs.Run.{configurationWidth, runRecordWidth, longestRun, configurationMark, actionMark, markRefusal, runRecordRefusal, actionIn, actOn, configurationOf, runRecordsOf, lengthRefusal, opening, Step, stepOn, handedBack, statesIn, Trace, traceBy, traceFrom, lastOf, judge}
+use Rattle.runs.specs.RunRecordLaws.{run-record-whole, whole-acts, accepted-whole, accepted-acts}
 use Rattle.runs.specs.TraceLaws.{trace-cases, trace-kept, last-each}
 use Rattle.runs.specs.Opening.{limitsIn, firstState, traceOf, opening-number, opening-fresh, fresh-opened, opening-state, opening-limits, opening-rules, opening-tidy, opened}
 
@@ -48,7 +67,7 @@ actionsOf n records = map actionIn (take n records)
 
 -- the record is one of an action, with its six bytes and the mark
 abbrev pub Whole : List ℕ → Type 0
-Whole bytes = recordRefusal recordWidth actionMark bytes ≡ accepted
+Whole bytes = runRecordRefusal runRecordWidth actionMark bytes ≡ accepted
 
 -- actions one after another from s on: each with what it answers
 unfoldable pub stepsAfter : State → List Action → List Step
@@ -63,11 +82,11 @@ steps-states s (x ∷ xs) = ap (λ (l : List State). act s x .state ∷ l) (step
 -- what holds of the trace t of the records from s on, the first at byte `from`
 record Traced (s : State) (from : ℕ) (records : List (List ℕ)) (t : Trace) : Type 0 where
   few : length (t .steps) ≤ length records
-  marked : Each Whole (take (length (t .steps)) records)
+  whole-each : Each Whole (take (length (t .steps)) records)
   actions : AllAccepted s (actionsOf (length (t .steps)) records)
   steps : t .steps ≡ stepsAfter s (actionsOf (length (t .steps)) records)
   at : t .at ≡ from + length (flatten (take (length (t .steps)) records))
-  whole : t .refusal ≡ accepted → length (t .steps) ≡ length records
+  all-taken : t .refusal ≡ accepted → length (t .steps) ≡ length records
   refused : (t .refusal ≡ accepted → ⊥)
       → (length (t .steps) < length records)
       × (actOn (lastOf s (statesIn (t .steps))) (getD records (length (t .steps)) []) .refusal ≡ t .refusal)
@@ -84,35 +103,35 @@ traced-by s from bytes records t r =
     let next : actOn s bytes .state ≡ act s (actionIn bytes) .state = ap (λ (a : ActionAnswer). a .state) acts in
     record {
       few = omega (arith, r .few);
-      marked = (accepted-whole s bytes ok, r .marked);
+      whole-each = (accepted-whole s bytes ok, r .whole-each);
       actions = (ap (λ (a : ActionAnswer). a .refusal) (sym acts) ∙ ok, rw (← next) (r .actions));
       steps = ap₂ (λ (a : ActionAnswer) (l : List Step). record { action = actionIn bytes; answer = a } ∷ l) acts (rw (← next) (r .steps));
       at = rw length-append (omega (arith, r .at));
-      whole = λ h. ap suc (r .whole h);
+      all-taken = λ h. ap suc (r .all-taken h);
       refused = λ h. let p = r .refused h in (omega (arith, p .0), p .1);
     })
     (λ e.
     record {
       few = omega arith;
-      marked = tt;
+      whole-each = tt;
       actions = tt;
       steps = refl;
       at = omega arith;
-      whole = λ h. absurd (e h);
+      all-taken = λ h. absurd (e h);
       refused = λ h. (omega arith, refl);
     })
 
--- so it is of any records
+-- so it holds of the trace of any records
 traced : (s : State) (from : ℕ) (records : List (List ℕ)) → Traced s from records (traceFrom s from records)
 unfolding traceFrom stepsAfter flatten
 traced s from [] =
     record {
       few = omega arith;
-      marked = tt;
+      whole-each = tt;
       actions = tt;
       steps = refl;
       at = omega arith;
-      whole = λ h. refl;
+      all-taken = λ h. refl;
       refused = λ h. absurd (h refl);
     }
 traced s from (bytes ∷ records) =
@@ -120,14 +139,14 @@ traced s from (bytes ∷ records) =
     traced-by s from bytes records (traceFrom next (from + length bytes) records) (traced next (from + length bytes) records)
 
 -- actions accepted one after another: each is accepted on the state of its number, and hands back the next one
-accepted-at : (s : State) (actions : List Action) → AllAccepted s actions → (k : ℕ) (d : Action) → k < length actions
+accepted-state-at : (s : State) (actions : List Action) → AllAccepted s actions → (k : ℕ) (d : Action) → k < length actions
     → let t = getD (s ∷ statesAfter s actions) k zeroState in
     let answer = act t (getD actions k d) in
     (answer .refusal ≡ accepted) × (getD (s ∷ statesAfter s actions) (suc k) zeroState ≡ answer .state)
 unfolding statesAfter
-accepted-at s [] all k d h = absurd (omega arith)
-accepted-at s (x ∷ xs) all zero d h = (all .0, refl)
-accepted-at s (x ∷ xs) all (suc k) d h = accepted-at (act s x .state) xs (all .1) k d (omega arith)
+accepted-state-at s [] all k d h = absurd (omega arith)
+accepted-state-at s (x ∷ xs) all zero d h = (all .0, refl)
+accepted-state-at s (x ∷ xs) all (suc k) d h = accepted-state-at (act s x .state) xs (all .1) k d (omega arith)
 
 -- they hand back as many states
 states-length : (s : State) (actions : List Action) → length (statesAfter s actions) ≡ length actions
@@ -176,15 +195,15 @@ module _ (run : List ℕ) where
   limits-in : limitsIn run ≡ limitsOf run
   limits-in = rw (byte-in 2 (omega arith), byte-in 3 (omega arith), byte-in 4 (omega arith), byte-in 5 (omega arith))
 
-  -- by which number it does not open, in the order of the paper, on its own bytes: "over 65,532 bytes 25; .. fewer than six bytes 21
-  -- (also for an empty run), mark 20, configuration 22"; where none of these holds, it opens
+  -- by which number it does not open, in the order of the paper, on its own bytes: "over 65,532 bytes 25; .. fewer than six bytes
+  -- 21 (also for an empty run), mark 20, configuration 22"; where none of these holds, it opens
   pub opening-is : opening run .refusal
       ≡ refuse (ltb longestRun (length run)) runTooLong
       (refuse (ltb (length run) configurationWidth) tooShort
       (refuse (not (marked configurationMark run)) wrongMark
       (refuse (not (inRange (limitsOf run))) badConfiguration
       accepted)))
-  unfolding lengthRefusal recordRefusal markRefusal limitsRefusal
+  unfolding lengthRefusal runRecordRefusal markRefusal limitsRefusal
   opening-is =
       sym (opening-number run)
       ∙ opening-chain (ltb longestRun (length run)) _ _ (fresh (limitsIn run) .refusal)
@@ -201,16 +220,16 @@ module _ (run : List ℕ) where
 
 -- ---- what a run does
 -- record k behind the configuration, the first with number 0
-abbrev pub recordAt : List ℕ → ℕ → List ℕ
-recordAt run k = getD (recordsOf run) k []
+abbrev pub runRecordAt : List ℕ → ℕ → List ℕ
+runRecordAt run k = getD (runRecordsOf run) k []
 
 -- the actions of its accepted records: as many as the verdict says, from the first on
 abbrev pub acceptedActions : List ℕ → List Action
-acceptedActions run = map actionIn (take (judge run .tally .accepted) (recordsOf run))
+acceptedActions run = map actionIn (take (judge run .tally .accepted) (runRecordsOf run))
 
 -- the record behind them
-abbrev pub nextRecord : List ℕ → List ℕ
-nextRecord run = recordAt run (judge run .tally .accepted)
+abbrev pub nextRunRecord : List ℕ → List ℕ
+nextRunRecord run = runRecordAt run (judge run .tally .accepted)
 
 -- its states: the first one, and those that its accepted actions hand back
 abbrev pub statesOf : List ℕ → List State
@@ -224,32 +243,33 @@ stateAt run n = getD (statesOf run) n zeroState
 abbrev pub constantsIn : List ℕ → Constants
 constantsIn run = constantsOf (firstState run .limits)
 
--- what record k of the run is, and does: it is bytes of the run, six with the action mark, and its action joins the states k and k + 1
+-- what record k of the run is and does: it is six bytes of the run, with the action mark, and its action joins the states k and
+-- k + 1
 pub record Joins (run : List ℕ) (k : ℕ) : Type 0 where
-  pub bytes : recordAt run k ≡ take recordWidth (drop (configurationWidth + recordWidth * k) run)
-  pub six : length (recordAt run k) ≡ recordWidth
-  pub marked : marked actionMark (recordAt run k) ≡ true
-  pub joins : Choice (constantsIn run) (actionIn (recordAt run k)) (meaning (stateAt run k)) (meaning (stateAt run (suc k)))
+  pub bytes : runRecordAt run k ≡ take runRecordWidth (drop (configurationWidth + runRecordWidth * k) run)
+  pub six : length (runRecordAt run k) ≡ runRecordWidth
+  pub marked : marked actionMark (runRecordAt run k) ≡ true
+  pub joins : Choice (constantsIn run) (actionIn (runRecordAt run k)) (meaning (stateAt run k)) (meaning (stateAt run (suc k)))
 
--- one whose configuration is accepted
+-- of a run whose configuration is accepted
 module _ (run : List ℕ) (ok : opening run .refusal ≡ accepted) where
-  facts : Traced (firstState run) configurationWidth (recordsOf run) (traceOf run)
-  facts = traced (firstState run) configurationWidth (recordsOf run)
+  run-traced : Traced (firstState run) configurationWidth (runRecordsOf run) (traceOf run)
+  run-traced = traced (firstState run) configurationWidth (runRecordsOf run)
 
   -- ---- its steps and its states
   -- no more actions are accepted than there are records
-  pub accepted-few : judge run .tally .accepted ≤ length (recordsOf run)
-  accepted-few = rw (opened run ok) (facts .few)
+  pub accepted-few : judge run .tally .accepted ≤ length (runRecordsOf run)
+  accepted-few = rw (opened run ok) (run-traced .few)
 
   pub as-many : length (acceptedActions run) ≡ judge run .tally .accepted
-  as-many = rw length-map (length-take-le (judge run .tally .accepted) (recordsOf run) accepted-few)
+  as-many = rw length-map (length-take-le (judge run .tally .accepted) (runRecordsOf run) accepted-few)
 
   pub actions-accepted : AllAccepted (firstState run) (acceptedActions run)
-  actions-accepted = rw (opened run ok) (facts .actions)
+  actions-accepted = rw (opened run ok) (run-traced .actions)
 
   -- its steps have the actions of its accepted records, and what these answer one after another from the first state on
   pub steps-are : traceOf run .steps ≡ stepsAfter (firstState run) (acceptedActions run)
-  steps-are = rw (opened run ok) (facts .steps)
+  steps-are = rw (opened run ok) (run-traced .steps)
 
   -- behind the first state there is one for each accepted action: that which it hands back
   pub states-are : statesIn (traceOf run .steps) ≡ statesAfter (firstState run) (acceptedActions run)
@@ -270,7 +290,7 @@ module _ (run : List ℕ) (ok : opening run .refusal ≡ accepted) where
   kept-first = kept-same (firstState run) (opening-rules run ok) (opening-tidy run ok)
 
   kept-each : Each (Kept (firstState run)) (statesIn (traceOf run .steps))
-  kept-each = trace-kept (firstState run) (recordsOf run) (firstState run) configurationWidth kept-first
+  kept-each = trace-kept (firstState run) (runRecordsOf run) (firstState run) configurationWidth kept-first
 
   pub state-kept : (n : ℕ) → n ≤ judge run .tally .accepted → Kept (firstState run) (stateAt run n)
   state-kept n h =
@@ -284,31 +304,31 @@ module _ (run : List ℕ) (ok : opening run .refusal ≡ accepted) where
 
   -- ---- each accepted record: its own action joins two of them
   -- its action, by number
-  action-at : (k : ℕ) → k < judge run .tally .accepted → getD (acceptedActions run) k (actionIn []) ≡ actionIn (recordAt run k)
+  action-at : (k : ℕ) → k < judge run .tally .accepted → getD (acceptedActions run) k (actionIn []) ≡ actionIn (runRecordAt run k)
   action-at k h =
-      List·getD-map actionIn (take (judge run .tally .accepted) (recordsOf run)) k []
-      ∙ ap actionIn (getD-take (judge run .tally .accepted) (recordsOf run) k [] h)
+      List·getD-map actionIn (take (judge run .tally .accepted) (runRecordsOf run)) k []
+      ∙ ap actionIn (getD-take (judge run .tally .accepted) (runRecordsOf run) k [] h)
 
   -- the record is whole
-  whole-at : (k : ℕ) → k < judge run .tally .accepted → Whole (recordAt run k)
+  whole-at : (k : ℕ) → k < judge run .tally .accepted → Whole (runRecordAt run k)
   whole-at k h =
-      let first : List (List ℕ) = take (judge run .tally .accepted) (recordsOf run) in
-      let all : Each Whole first = rw (opened run ok) (facts .marked) in
-      rw (← getD-take (judge run .tally .accepted) (recordsOf run) k [] h)
-      (each-at Whole first all k [] (omega (arith, length-take-le (judge run .tally .accepted) (recordsOf run) accepted-few)))
+      let first : List (List ℕ) = take (judge run .tally .accepted) (runRecordsOf run) in
+      let all : Each Whole first = rw (opened run ok) (run-traced .whole-each) in
+      rw (← getD-take (judge run .tally .accepted) (runRecordsOf run) k [] h)
+      (each-at Whole first all k [] (omega (arith, length-take-le (judge run .tally .accepted) (runRecordsOf run) accepted-few)))
 
-  pub record-joins : (k : ℕ) → k < judge run .tally .accepted → Joins run k
-  record-joins k h =
+  pub run-record-joins : (k : ℕ) → k < judge run .tally .accepted → Joins run k
+  run-record-joins k h =
       let s : State = stateAt run k in
-      let action : Action = actionIn (recordAt run k) in
+      let action : Action = actionIn (runRecordAt run k) in
       let kept = state-kept k (omega arith) in
-      let p = record-whole actionMark (recordAt run k) recordWidth .0 (whole-at k h) in
-      let b : recordAt run k ≡ take recordWidth (drop (configurationWidth + recordWidth * k) run) =
-      piece-at 5 k (drop configurationWidth run) ∙ ap (take recordWidth) (drop-drop (recordWidth * k) configurationWidth run) in
-      let a = rw (action-at k h) at (accepted-at (firstState run) (acceptedActions run) actions-accepted k (actionIn []) (omega (arith, as-many))) in
+      let p = run-record-whole actionMark (runRecordAt run k) runRecordWidth .0 (whole-at k h) in
+      let b : runRecordAt run k ≡ take runRecordWidth (drop (configurationWidth + runRecordWidth * k) run) =
+      piece-at 5 k (drop configurationWidth run) ∙ ap (take runRecordWidth) (drop-drop (runRecordWidth * k) configurationWidth run) in
+      let a = rw (action-at k h) at (accepted-state-at (firstState run) (acceptedActions run) actions-accepted k (actionIn []) (omega (arith, as-many))) in
       record {
         bytes = b;
-        six = omega (arith, p .0, ap length b ∙ length-take recordWidth (drop (configurationWidth + recordWidth * k) run));
+        six = omega (arith, p .0, ap length b ∙ length-take runRecordWidth (drop (configurationWidth + runRecordWidth * k) run));
         marked = p .1;
         joins = rw (← kept .limits, a .1)
             (action-is-published s (kept .rules) action (meaning (act s action .state)) .1
@@ -330,23 +350,23 @@ module _ (run : List ℕ) (ok : opening run .refusal ≡ accepted) where
   pub last-kept : Kept (firstState run) (judge run .state)
   last-kept = rw (opened run ok) (last-each (Kept (firstState run)) (firstState run) (statesIn (traceOf run .steps)) kept-first kept-each)
 
-  -- it is behind the bytes of the accepted records
-  pub at-behind : judge run .at ≡ configurationWidth + length (flatten (take (judge run .tally .accepted) (recordsOf run)))
-  at-behind = rw (opened run ok) (facts .at)
+  -- the byte where it stops is behind those of the accepted records
+  pub at-behind : judge run .at ≡ configurationWidth + length (flatten (take (judge run .tally .accepted) (runRecordsOf run)))
+  at-behind = rw (opened run ok) (run-traced .at)
 
   -- not refused, it has accepted every record
-  pub all-accepted : judge run .refusal ≡ accepted → judge run .tally .accepted ≡ length (recordsOf run)
-  all-accepted h = rw (opened run ok) (facts .whole (rw (opened run ok) at h))
+  pub all-accepted : judge run .refusal ≡ accepted → judge run .tally .accepted ≡ length (runRecordsOf run)
+  all-accepted h = rw (opened run ok) (run-traced .all-taken (rw (opened run ok) at h))
 
   -- refused, there is a next record, whose answer on the last state is the refusal
   pub next-refused : (judge run .refusal ≡ accepted → ⊥)
-      → (judge run .tally .accepted < length (recordsOf run)) × (actOn (judge run .state) (nextRecord run) .refusal ≡ judge run .refusal)
-  next-refused h = rw (opened run ok) (facts .refused (rw (opened run ok) at h))
+      → (judge run .tally .accepted < length (runRecordsOf run)) × (actOn (judge run .state) (nextRunRecord run) .refusal ≡ judge run .refusal)
+  next-refused h = rw (opened run ok) (run-traced .refused (rw (opened run ok) at h))
 
   -- and its action, where it has six bytes and the mark, is one that the model does not allow
-  pub refused-not-allowed : (judge run .refusal ≡ accepted → ⊥) → Whole (nextRecord run)
-      → (v : ModelState) → Choice (constantsIn run) (actionIn (nextRecord run)) (meaning (judge run .state)) v → ⊥
+  pub refused-not-allowed : (judge run .refusal ≡ accepted → ⊥) → Whole (nextRunRecord run)
+      → (v : ModelState) → Choice (constantsIn run) (actionIn (nextRunRecord run)) (meaning (judge run .state)) v → ⊥
   refused-not-allowed h whole v choice =
       let s : State = judge run .state in
-      let a = action-is-published s (last-kept .rules) (actionIn (nextRecord run)) v .0 (rw (last-kept .limits) choice) in
-      h (sym (next-refused h .1) ∙ ap (λ (o : ActionAnswer). o .refusal) (whole-acts s (nextRecord run) whole) ∙ a .0)
+      let a = action-is-published s (last-kept .rules) (actionIn (nextRunRecord run)) v .0 (rw (last-kept .limits) choice) in
+      h (sym (next-refused h .1) ∙ ap (λ (o : ActionAnswer). o .refusal) (whole-acts s (nextRunRecord run) whole) ∙ a .0)

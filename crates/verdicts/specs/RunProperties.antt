@@ -28,7 +28,7 @@ use Rattle.runs.specs.Run.{opening, weakHolds, strongHolds, judge}
 use Rattle.runs.specs.Opening.{firstState, opening-holds, opened}
 use Rattle.verdicts.specs.RunBehaviour.{acceptedActions, statesOf, stateAt, constantsIn, states-are, states-within, state-kept}
 
--- of one whose configuration is accepted
+-- of a run whose configuration is accepted
 module _ (run : List ℕ) (ok : opening run .refusal ≡ accepted) where
   -- ---- when a property first fails
   module _ (property : Property) where
@@ -66,14 +66,14 @@ module _ (run : List ℕ) (ok : opening run .refusal ≡ accepted) where
           let l : suc i ≤ judge run .tally .accepted = states-within run ok (suc i) .1 (omega (arith, f .0, length-map (statesOf run) holds)) in
           (l, (λ p. true-false (sym (answer-at (suc i) l .1 p) ∙ f .1)), hold-up-to i (omega arith) (f .2))
 
-      by-number : ((n : ℕ) → n ≤ judge run .tally .accepted → Holds n) → (k : ℕ) → firstFailing 1 answers ≡ k → k ≡ 0
-      by-number f zero e = refl
-      by-number f (suc i) e = let p = fails-at i e in absurd (p .1 (f (suc i) (p .0)))
+      zero-where-all-hold : ((n : ℕ) → n ≤ judge run .tally .accepted → Holds n) → (k : ℕ) → firstFailing 1 answers ≡ k → k ≡ 0
+      zero-where-all-hold f zero e = refl
+      zero-where-all-hold f (suc i) e = let p = fails-at i e in absurd (p .1 (f (suc i) (p .0)))
 
       never-fails : firstFailing 1 answers ≡ 0 ↔ ((n : ℕ) → n ≤ judge run .tally .accepted → Holds n)
       never-fails = (
         (λ e. hold-up-to (judge run .tally .accepted) (omega arith) (λ i l. every-at answers (failing-zero 0 answers .0 e) i)),
-        (λ f. by-number f (firstFailing 1 answers) refl),
+        (λ f. zero-where-all-hold f (firstFailing 1 answers) refl),
       )
 
   -- ---- weak ISR
@@ -127,7 +127,7 @@ module _ (run : List ℕ) (ok : opening run .refusal ≡ accepted) where
         exposed-number,
       )
 
-  -- and at most any number that is so
+  -- and at most every number that none of these hws exceeds
   pub exposed-run-by : (k : ℕ)
       → ((n : ℕ) → n ≤ judge run .tally .accepted → (r : ℕ) → r < replicaCount (firstState run .limits)
       → replicaPresumesLeadership (stateAt run n) r ≡ true → replicaAt (stateAt run n) r .hw ≤ k)

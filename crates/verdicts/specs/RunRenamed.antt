@@ -1,5 +1,13 @@
--- Demand 3 of runs, for every run of bytes and every renaming of its replicas: broker numbers are only names. And a renamed run
+-- Demand 3 of runs, for every run of bytes and every renaming of its replicas. "Broker numbers are only names." And a renamed run
 -- of bytes is bytes. Assumes nothing.
+--
+--   run-behind, run-stays   the renamed run where the configuration is accepted; any other run stays
+--   run-length              a renamed run is as long
+--   configuration-renamed   where its configuration is accepted, it is the run's
+--   run-records-renamed     and its records are the run's, renamed
+--   opening-renamed         its length and its configuration answer what the run's do
+--   run-renamed             demand 3 of runs: the verdict of the renamed run is the renamed verdict
+--   run-bytes               a renamed run of bytes is a run of bytes
 use Prim.Native.Nat.{ℕ, zero, suc, _+_, _*_, _≤_, _<_}
 use mathlib.Core.Path.{_≡_, refl, sym, ap, ap₂, _∙_}
 use mathlib.Core.Bool.{Bool, true, false, _&&_, cond}
@@ -11,7 +19,7 @@ use lib.ListN.{length, drop, getD, length-append, take-append-drop}
 use lib.Seq.{take-at, drop-at}
 use borrow.Author.Tests.{ltb-true}
 use Rattle.logic.specs.Tests.{and-right}
-use Rattle.logic.specs.Refuse.{by-accepted, by-refused, by-cases}
+use Rattle.logic.specs.Refuse.{by-accepted, by-refused, by-either}
 use Rattle.logic.specs.Pieces.{pieces, piece-at, changed-length, pieces-again}
 use Rattle.parts.specs.Refusal.{accepted}
 use Rattle.parts.specs.Mark.{byteAt}
@@ -20,39 +28,39 @@ use Rattle.cluster.specs.declared.Limits.{Limits}
 use Rattle.cluster.specs.declared.State.{State}
 use Rattle.cluster.specs.declared.Outcome.{Outcome}
 use Rattle.cluster.specs.State.{replicaCount}
-use Rattle.runs.specs.Run.{configurationWidth, recordWidth, actionMark, recordRefusal, configure, actionIn, configurationOf, recordsOf, opening, traceFrom, noTally, verdictFrom, judge}
+use Rattle.runs.specs.Run.{configurationWidth, runRecordWidth, actionMark, runRecordRefusal, configure, actionIn, configurationOf, runRecordsOf, opening, traceFrom, noTally, verdictFrom, judge}
 use Rattle.runs.specs.Opening.{limitsIn, firstState, opening-configures, opening-short, configuration-length, opening-in-range, opening-state, opening-limits, opening-rules, opening-tidy, opened, judge-unopened}
 use Rattle.runs.specs.Judging.{verdictAt}
 use Rattle.renamings.specs.Names.{newName, isRenaming}
 use Rattle.renamings.specs.Rename.{renameOperand, renameAction, renamed, Renames}
 use Rattle.renamings.specs.Places.{renaming-iff}
 use Rattle.renamings.specs.FreshRenamed.{zero-renamed, fresh-renamed}
-use Rattle.verdicts.specs.RenameRun.{withOperands, renameRecord, replicasOf, renamedRecords, renameRun, RenamesRun, renameVerdict}
-use Rattle.verdicts.specs.TraceRenamed.{record-length, verdict-renamed}
+use Rattle.verdicts.specs.RenameRun.{withOperands, renameRunRecord, replicasOf, renamedRunRecords, renameRun, RenamesRun, renameVerdict}
+use Rattle.verdicts.specs.TraceRenamed.{run-record-length, verdict-renamed}
 
 -- ---- a renamed run
 module _ (run p : List ℕ) where
   abbrev rename : List ℕ → List ℕ
-  rename = renameRecord (replicasOf run) (newName p)
+  rename = renameRunRecord (replicasOf run) (newName p)
 
   -- where the configuration is accepted, that stays and each record behind it is renamed; any other run stays
-  run-behind : opening run .refusal ≡ accepted → renameRun p run ≡ configurationOf run ++ flatten (renamedRecords p run)
+  run-behind : opening run .refusal ≡ accepted → renameRun p run ≡ configurationOf run ++ flatten (renamedRunRecords p run)
   unfolding renameRun
-  run-behind ok = sym (by-accepted _ (λ number. run) (configurationOf run ++ flatten (renamedRecords p run)) ok)
+  run-behind ok = sym (by-accepted _ (λ number. run) (configurationOf run ++ flatten (renamedRunRecords p run)) ok)
 
   run-stays : (opening run .refusal ≡ accepted → ⊥) → renameRun p run ≡ run
   unfolding renameRun
-  run-stays h = sym (by-refused _ (λ number. run) (configurationOf run ++ flatten (renamedRecords p run)) h)
+  run-stays h = sym (by-refused _ (λ number. run) (configurationOf run ++ flatten (renamedRunRecords p run)) h)
 
   -- its length stays
   pub run-length : length (renameRun p run) ≡ length run
   unfolding renameRun
   run-length =
-      by-cases (λ (l : List ℕ). length l ≡ length run) (opening run .refusal) (λ number. run) (configurationOf run ++ flatten (renamedRecords p run))
+      by-either (λ (l : List ℕ). length l ≡ length run) (opening run .refusal) (λ number. run) (configurationOf run ++ flatten (renamedRunRecords p run))
       (λ ok.
-      length-append (configurationOf run) (flatten (renamedRecords p run))
+      length-append (configurationOf run) (flatten (renamedRunRecords p run))
       ∙ ap (λ (k : ℕ). length (configurationOf run) + k)
-      (changed-length 5 rename (record-length (replicasOf run) (newName p)) (drop configurationWidth run))
+      (changed-length 5 rename (run-record-length (replicasOf run) (newName p)) (drop configurationWidth run))
       ∙ sym (length-append (configurationOf run) (drop configurationWidth run))
       ∙ ap length (take-append-drop configurationWidth run))
       (λ h. refl)
@@ -62,14 +70,14 @@ module _ (run p : List ℕ) where
     configuration-renamed : configurationOf (renameRun p run) ≡ configurationOf run
     configuration-renamed =
         ap configurationOf (run-behind ok)
-        ∙ take-at (configurationOf run) (flatten (renamedRecords p run)) configurationWidth (configuration-length run ok)
+        ∙ take-at (configurationOf run) (flatten (renamedRunRecords p run)) configurationWidth (configuration-length run ok)
 
-    records-renamed : recordsOf (renameRun p run) ≡ renamedRecords p run
-    records-renamed =
-        ap recordsOf (run-behind ok)
-        ∙ ap (pieces recordWidth)
-        (drop-at (configurationOf run) (flatten (renamedRecords p run)) configurationWidth (configuration-length run ok))
-        ∙ pieces-again 5 rename (record-length (replicasOf run) (newName p)) (drop configurationWidth run)
+    run-records-renamed : runRecordsOf (renameRun p run) ≡ renamedRunRecords p run
+    run-records-renamed =
+        ap runRecordsOf (run-behind ok)
+        ∙ ap (pieces runRecordWidth)
+        (drop-at (configurationOf run) (flatten (renamedRunRecords p run)) configurationWidth (configuration-length run ok))
+        ∙ pieces-again 5 rename (run-record-length (replicasOf run) (newName p)) (drop configurationWidth run)
 
   -- its length and its configuration answer the same
   pub opening-renamed : opening (renameRun p run) ≡ opening run
@@ -99,20 +107,21 @@ module _ (run p : List ℕ) (r : RenamesRun run p) where
         (ap (λ (c : Limits). isRenaming (replicaCount c) p) (sym (opening-limits run e)) ∙ renames-start)
         ∙ sym e₀
 
-    opened-verdict : verdictFrom start (traceFrom start configurationWidth (renamedRecords p run))
-        ≡ renameVerdict p (verdictFrom start (traceFrom start configurationWidth (recordsOf run)))
+    opened-verdict : verdictFrom start (traceFrom start configurationWidth (renamedRunRecords p run))
+        ≡ renameVerdict p (verdictFrom start (traceFrom start configurationWidth (runRecordsOf run)))
     opened-verdict =
-        ap (λ (s : State). verdictFrom s (traceFrom s configurationWidth (renamedRecords p run))) (sym start-stays)
-        ∙ verdict-renamed start p renames-start (opening-rules run e) (opening-tidy run e) configurationWidth (recordsOf run)
+        ap (λ (s : State). verdictFrom s (traceFrom s configurationWidth (renamedRunRecords p run))) (sym start-stays)
+        ∙ verdict-renamed start p renames-start (opening-rules run e) (opening-tidy run e) configurationWidth (runRecordsOf run)
 
--- demand 3: "a run of any bytes, renamed throughout, stops at the same byte with the same numbers and the renamed last state"
+-- demand 3: "the run renamed throughout stops at the same byte. Every number of its verdict is the same, and its last state, if
+-- there is one, is the other's, renamed."
 pub run-renamed : (run p : List ℕ) → RenamesRun run p → judge (renameRun p run) ≡ renameVerdict p (judge run)
 run-renamed run p r =
     let number : opening (renameRun p run) .refusal ≡ opening run .refusal = ap (λ (o : Outcome). o .refusal) (opening-renamed run p) in
     elim (ℕ-discrete (opening run .refusal) accepted) [
       | yes ok ↦ opened (renameRun p run) (number ∙ ok)
           ∙ ap₂ (λ (o : Outcome) (records : List (List ℕ)). verdictFrom (o .state) (traceFrom (o .state) configurationWidth records))
-          (opening-renamed run p) (records-renamed run p ok)
+          (opening-renamed run p) (run-records-renamed run p ok)
           ∙ opened-verdict run p r ok
           ∙ ap (renameVerdict p) (sym (opened run ok))
       | no h ↦ judge-unopened (renameRun p run) (λ q. h (sym number ∙ q))
@@ -132,10 +141,10 @@ module _ (n : ℕ) (p : List ℕ) (five : n ≤ 5) (r : isRenaming n p ≡ true)
       go true e = omega (arith, renaming-iff n p five .0 r .below a (ltb-true a n (and-right used (ltb a n) e)))
       go false e = h
 
-  record-bytes : (bytes : List ℕ) → Bytes bytes → Bytes (renameRecord n (newName p) bytes)
-  unfolding renameRecord renameAction
-  record-bytes bytes h =
-      by-cases Bytes (recordRefusal recordWidth actionMark bytes) (λ number. bytes) (withOperands bytes (renameAction n (newName p) (actionIn bytes)))
+  run-record-bytes : (bytes : List ℕ) → Bytes bytes → Bytes (renameRunRecord n (newName p) bytes)
+  unfolding renameRunRecord renameAction
+  run-record-bytes bytes h =
+      by-either Bytes (runRecordRefusal runRecordWidth actionMark bytes) (λ number. bytes) (withOperands bytes (renameAction n (newName p) (actionIn bytes)))
       (λ e.
       bytes-set _ 4 _ (operand-byte _ (byteAt bytes 4) (h .byte 4))
       (bytes-set bytes 3 _ (operand-byte _ (byteAt bytes 3) (h .byte 3)) h))
@@ -145,15 +154,15 @@ module _ (n : ℕ) (p : List ℕ) (five : n ≤ 5) (r : isRenaming n p ≡ true)
 pub run-bytes : (run p : List ℕ) → RenamesRun run p → Bytes run → Bytes (renameRun p run)
 unfolding renameRun
 run-bytes run p r h =
-    by-cases Bytes (opening run .refusal) (λ number. run) (configurationOf run ++ flatten (renamedRecords p run))
+    by-either Bytes (opening run .refusal) (λ number. run) (configurationOf run ++ flatten (renamedRunRecords p run))
     (λ e.
-    bytes-append (configurationOf run) (flatten (renamedRecords p run)) (bytes-take configurationWidth run h)
+    bytes-append (configurationOf run) (flatten (renamedRunRecords p run)) (bytes-take configurationWidth run h)
     (rw (r .own e)
-    (bytes-flatten (renameRecord (r .count) (newName p)) (recordsOf run)
-    (λ k. record-bytes (r .count) p (r .few) (r .renaming) (getD (recordsOf run) k []) (piece k)))))
+    (bytes-flatten (renameRunRecord (r .count) (newName p)) (runRecordsOf run)
+    (λ k. run-record-bytes (r .count) p (r .few) (r .renaming) (getD (runRecordsOf run) k []) (piece k)))))
     (λ e. h)
   where
-    piece : (k : ℕ) → Bytes (getD (recordsOf run) k [])
+    piece : (k : ℕ) → Bytes (getD (runRecordsOf run) k [])
     piece k =
         rw (piece-at 5 k (drop configurationWidth run))
-        (bytes-take recordWidth _ (bytes-drop (recordWidth * k) (drop configurationWidth run) (bytes-drop configurationWidth run h)))
+        (bytes-take runRecordWidth _ (bytes-drop (runRecordWidth * k) (drop configurationWidth run) (bytes-drop configurationWidth run h)))

@@ -1,5 +1,13 @@
 -- The records of a run under a renaming, and the verdict from a state on: the renamed records on the renamed state are accepted
 -- and refused as the records on the state are, and every state on the way is the renamed one. Assumes nothing.
+--
+--   operands-length .. operands-action   a record with other operands: its length, its other bytes, its refusal, its action
+--   whole-renamed, other-stays           a whole record renamed has other operands; any other record stays
+--   run-record-length                    a renamed record is as long
+--   act-on-renamed                       on the renamed state it gets the renamed answer
+--   action-renamed                       the action of a renamed whole record is the renamed action
+--   trace-renamed                        the renamed records on the renamed state have the renamed trace
+--   verdict-renamed                      and the renamed verdict
 use Prim.Native.Nat.{ℕ, _+_, _≤_}
 use mathlib.Core.Path.{_≡_, refl, sym, ap, ap₂, _∙_}
 use mathlib.Core.Bool.{true}
@@ -10,7 +18,7 @@ use native.Mathlib.Decide.{ℕ-discrete}
 use lib.ListN.{length, set, length-set, length-map}
 use lib.Seq.{getD-set-same, getD-set-other}
 use Rattle.logic.specs.Each.{Each, map-unseen}
-use Rattle.logic.specs.Refuse.{by-accepted, by-refused, by-cases}
+use Rattle.logic.specs.Refuse.{by-accepted, by-refused, by-either}
 use Rattle.parts.specs.Refusal.{accepted}
 use Rattle.parts.specs.Mark.{byteAt, marked}
 use Rattle.cluster.specs.declared.Limits.{Limits}
@@ -23,30 +31,30 @@ use Rattle.cluster.specs.Act.{actionOf, act}
 use Rattle.actions.specs.Kept.{Kept, kept-same}
 use Rattle.questions.specs.declared.Property.the-variants.{WeakIsr, StrongIsr}
 use Rattle.questions.specs.Exposed.{exposed}
-use Rattle.runs.specs.Run.{recordWidth, actionMark, markRefusal, recordRefusal, actionIn, actOn, Step, stepOn, handedBack, statesIn, Trace, stopped, stepThen, traceBy, traceFrom, weakHolds, strongHolds, lastOf, verdictFrom}
-use Rattle.runs.specs.RecordLaws.{record-whole, whole-acts, unread, accepted-whole}
+use Rattle.runs.specs.Run.{runRecordWidth, actionMark, markRefusal, runRecordRefusal, actionIn, actOn, Step, stepOn, handedBack, statesIn, Trace, stopped, stepThen, traceBy, traceFrom, weakHolds, strongHolds, lastOf, verdictFrom}
+use Rattle.runs.specs.RunRecordLaws.{run-record-whole, whole-acts, unread, accepted-whole}
 use Rattle.runs.specs.TraceLaws.{trace-accepted, trace-refused, kept-on, trace-kept}
 use Rattle.renamings.specs.Names.{newName, isRenaming}
 use Rattle.renamings.specs.Rename.{renameAction, renamed, Renames}
 use Rattle.renamings.specs.RenameTheorems.{renamed-act, renamed-holds, renamed-exposed}
-use Rattle.verdicts.specs.RenameRun.{withOperands, renameRecord, renameAnswer, renameStep, renameTrace, renameVerdict}
+use Rattle.verdicts.specs.RenameRun.{withOperands, renameRunRecord, renameAnswer, renameStep, renameTrace, renameVerdict}
 
 -- ---- a record
 module _ (bytes : List ℕ) (action : Action) where
-  -- with operands put anew it is as long, and its other bytes stay
+  -- with other operands it is as long, and its other bytes stay
   operands-length : length (withOperands bytes action) ≡ length bytes
   operands-length = length-set (set bytes 3 (action .a)) 4 (action .b) ∙ length-set bytes 3 (action .a)
 
   other-byte : (k : ℕ) → k ≢ 3 → k ≢ 4 → byteAt (withOperands bytes action) k ≡ byteAt bytes k
   other-byte k h g = getD-set-other (set bytes 3 (action .a)) 4 k (action .b) 0 g ∙ getD-set-other bytes 3 k (action .a) 0 h
 
-  -- so it is refused as before
-  operands-refusal : recordRefusal recordWidth actionMark (withOperands bytes action) ≡ recordRefusal recordWidth actionMark bytes
-  unfolding recordRefusal markRefusal marked
+  -- so its length and its mark are refused as before
+  operands-refusal : runRecordRefusal runRecordWidth actionMark (withOperands bytes action) ≡ runRecordRefusal runRecordWidth actionMark bytes
+  unfolding runRecordRefusal markRefusal marked
   operands-refusal = rw (operands-length, other-byte 0 (omega arith) (omega arith), other-byte 1 (omega arith) (omega arith))
 
   -- and its action has the new operands
-  operands-action : recordWidth ≤ length bytes
+  operands-action : runRecordWidth ≤ length bytes
       → actionIn (withOperands bytes action) ≡ actionOf (byteAt bytes 2) (action .a) (action .b) (byteAt bytes 5)
   operands-action h =
       rw (
@@ -59,34 +67,34 @@ module _ (bytes : List ℕ) (action : Action) where
 
 module _ (n : ℕ) (to : ℕ → ℕ) (bytes : List ℕ) where
   -- a renamed record: of a whole one, and of any other
-  pub whole-renamed : recordRefusal recordWidth actionMark bytes ≡ accepted
-      → renameRecord n to bytes ≡ withOperands bytes (renameAction n to (actionIn bytes))
-  unfolding renameRecord
+  pub whole-renamed : runRecordRefusal runRecordWidth actionMark bytes ≡ accepted
+      → renameRunRecord n to bytes ≡ withOperands bytes (renameAction n to (actionIn bytes))
+  unfolding renameRunRecord
   whole-renamed whole = sym (by-accepted _ (λ number. bytes) (withOperands bytes (renameAction n to (actionIn bytes))) whole)
 
-  other-stays : (recordRefusal recordWidth actionMark bytes ≡ accepted → ⊥) → renameRecord n to bytes ≡ bytes
-  unfolding renameRecord
+  other-stays : (runRecordRefusal runRecordWidth actionMark bytes ≡ accepted → ⊥) → renameRunRecord n to bytes ≡ bytes
+  unfolding renameRunRecord
   other-stays torn = sym (by-refused _ (λ number. bytes) (withOperands bytes (renameAction n to (actionIn bytes))) torn)
 
   -- it is as long
-  pub record-length : length (renameRecord n to bytes) ≡ length bytes
-  unfolding renameRecord
-  record-length =
-      by-cases (λ (l : List ℕ). length l ≡ length bytes) (recordRefusal recordWidth actionMark bytes) (λ number. bytes)
+  pub run-record-length : length (renameRunRecord n to bytes) ≡ length bytes
+  unfolding renameRunRecord
+  run-record-length =
+      by-either (λ (l : List ℕ). length l ≡ length bytes) (runRecordRefusal runRecordWidth actionMark bytes) (λ number. bytes)
       (withOperands bytes (renameAction n to (actionIn bytes)))
       (λ e. operands-length bytes (renameAction n to (actionIn bytes))) (λ e. refl)
 
 -- a renamed record on the renamed state: the renamed answer
 act-on-renamed : (s : State) → rules s ≡ true → (p : List ℕ) → Renames s p → (bytes : List ℕ)
-    → actOn (renamed p s) (renameRecord (replicaCount (s .limits)) (newName p) bytes) ≡ renameAnswer p (actOn s bytes)
+    → actOn (renamed p s) (renameRunRecord (replicaCount (s .limits)) (newName p) bytes) ≡ renameAnswer p (actOn s bytes)
 unfolding renameAction
 act-on-renamed s h p f bytes =
     let n : ℕ = replicaCount (s .limits) in
     let new : Action = renameAction n (newName p) (actionIn bytes) in
-    elim (ℕ-discrete (recordRefusal recordWidth actionMark bytes) accepted) [
+    elim (ℕ-discrete (runRecordRefusal runRecordWidth actionMark bytes) accepted) [
       | yes e ↦ ap (actOn (renamed p s)) (whole-renamed n (newName p) bytes e)
           ∙ whole-acts (renamed p s) (withOperands bytes new) (operands-refusal bytes new ∙ e)
-          ∙ ap (act (renamed p s)) (operands-action bytes new (record-whole actionMark bytes recordWidth .0 e .0))
+          ∙ ap (act (renamed p s)) (operands-action bytes new (run-record-whole actionMark bytes runRecordWidth .0 e .0))
           ∙ renamed-act s h p f (actionIn bytes)
           ∙ ap (renameAnswer p) (sym (whole-acts s bytes e))
       | no e ↦ ap (actOn (renamed p s)) (other-stays n (newName p) bytes e)
@@ -94,31 +102,31 @@ act-on-renamed s h p f bytes =
           ∙ ap (renameAnswer p) (sym (unread s bytes e))
     ]
 
--- so the step of an accepted record is the renamed one
-action-renamed : (n : ℕ) (to : ℕ → ℕ) (bytes : List ℕ) → recordRefusal recordWidth actionMark bytes ≡ accepted
-    → actionIn (renameRecord n to bytes) ≡ renameAction n to (actionIn bytes)
+-- the action of a renamed whole record is the renamed action
+action-renamed : (n : ℕ) (to : ℕ → ℕ) (bytes : List ℕ) → runRecordRefusal runRecordWidth actionMark bytes ≡ accepted
+    → actionIn (renameRunRecord n to bytes) ≡ renameAction n to (actionIn bytes)
 unfolding renameAction
 action-renamed n to bytes whole =
     ap actionIn (whole-renamed n to bytes whole)
-    ∙ operands-action bytes (renameAction n to (actionIn bytes)) (record-whole actionMark bytes recordWidth .0 whole .0)
+    ∙ operands-action bytes (renameAction n to (actionIn bytes)) (run-record-whole actionMark bytes runRecordWidth .0 whole .0)
 
 -- ---- a trace
--- the last state
+-- the last of renamed states is the last state, renamed
 last-renamed : (p : List ℕ) (s : State) (states : List State) → lastOf (renamed p s) (map (renamed p) states) ≡ renamed p (lastOf s states)
 unfolding lastOf
 last-renamed p s [] = refl
 last-renamed p s (t ∷ ts) = last-renamed p t ts
 
--- the states of renamed steps
+-- renamed steps hand back renamed states
 states-renamed : (n : ℕ) (p : List ℕ) (steps : List Step) → statesIn (map (renameStep n p) steps) ≡ map (renamed p) (statesIn steps)
 states-renamed n p [] = refl
 states-renamed n p (step ∷ steps) = ap (λ (l : List State). renamed p (handedBack step) ∷ l) (states-renamed n p steps)
 
--- by the answer of its first record
-by-renamed : (n : ℕ) (p : List ℕ) (at : ℕ) (step other : Step) (rest more : Trace)
+-- a renamed step before a renamed trace makes the renamed trace; of a refused step the number is enough
+trace-by-renamed : (n : ℕ) (p : List ℕ) (at : ℕ) (step other : Step) (rest more : Trace)
     → other .answer .refusal ≡ step .answer .refusal → (step .answer .refusal ≡ accepted → other ≡ renameStep n p step)
     → more ≡ renameTrace n p rest → traceBy at other more ≡ renameTrace n p (traceBy at step rest)
-by-renamed n p at step other rest more same one all =
+trace-by-renamed n p at step other rest more same one all =
     elim (ℕ-discrete (step .answer .refusal) accepted) [
       | yes ok ↦ trace-accepted at other more (same ∙ ok)
           ∙ ap₂ stepThen (one ok) all
@@ -134,7 +142,7 @@ module _ (s : State) (p : List ℕ) (f : Renames s p) where
   n = replicaCount (s .limits)
 
   abbrev rename : List ℕ → List ℕ
-  rename = renameRecord n (newName p)
+  rename = renameRunRecord n (newName p)
 
   -- of a state t that keeps what s has: p is a renaming of its replicas too
   renames-on : (t : State) → Kept s t → Renames t p
@@ -143,7 +151,7 @@ module _ (s : State) (p : List ℕ) (f : Renames s p) where
   -- a renamed record on the renamed state gets the renamed answer
   renamed-on : (t : State) (bytes : List ℕ) → Kept s t → actOn (renamed p t) (rename bytes) ≡ renameAnswer p (actOn t bytes)
   renamed-on t bytes k =
-      ap (λ (c : Limits). actOn (renamed p t) (renameRecord (replicaCount c) (newName p) bytes)) (sym (k .limits))
+      ap (λ (c : Limits). actOn (renamed p t) (renameRunRecord (replicaCount c) (newName p) bytes)) (sym (k .limits))
       ∙ act-on-renamed t (k .rules) p (renames-on t k) bytes
 
   -- and where it is accepted, its step is the renamed one
@@ -161,15 +169,15 @@ module _ (s : State) (p : List ℕ) (f : Renames s p) where
   trace-renamed (bytes ∷ records) t at k =
       let next : State = handedBack (stepOn t bytes) in
       let e = renamed-on t bytes k in
-      by-renamed n p at (stepOn t bytes) (stepOn (renamed p t) (rename bytes)) (traceFrom next (at + length bytes) records) _
+      trace-by-renamed n p at (stepOn t bytes) (stepOn (renamed p t) (rename bytes)) (traceFrom next (at + length bytes) records) _
       (ap (λ (a : ActionAnswer). a .refusal) e) (step-renamed t bytes k)
-      (ap₂ (λ (a : ActionAnswer) (width : ℕ). traceFrom (a .state) (at + width) (map rename records)) e (record-length n (newName p) bytes)
+      (ap₂ (λ (a : ActionAnswer) (width : ℕ). traceFrom (a .state) (at + width) (map rename records)) e (run-record-length n (newName p) bytes)
       ∙ trace-renamed records next (at + length bytes) (kept-on s t bytes k))
 
   -- a renamed trace has the renamed verdict
-  of-renamed : (trace : Trace) → Each (Kept s) (s ∷ statesIn (trace .steps))
+  verdict-from-renamed : (trace : Trace) → Each (Kept s) (s ∷ statesIn (trace .steps))
       → verdictFrom (renamed p s) (renameTrace n p trace) ≡ renameVerdict p (verdictFrom s trace)
-  of-renamed trace all =
+  verdict-from-renamed trace all =
       let states : List State = statesIn (trace .steps) in
       rw (
         length-map (trace .steps) (renameStep n p),
@@ -186,4 +194,4 @@ module _ (s : State) (p : List ℕ) (f : Renames s p) where
   verdict-renamed h t at records =
       let kept = kept-same s h t in
       ap (verdictFrom (renamed p s)) (trace-renamed records s at kept)
-      ∙ of-renamed (traceFrom s at records) (kept, trace-kept s records s at kept)
+      ∙ verdict-from-renamed (traceFrom s at records) (kept, trace-kept s records s at kept)

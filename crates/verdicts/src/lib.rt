@@ -1,1 +1,1 @@
-// Theorems on runs and their verdicts: the definitions and proofs are in specs/. There is no code here.
+// Theorems on runs and their verdicts, and the marked examples; no code.

@@ -34,21 +34,21 @@ cast-result-3 c =
     let a = c .before .before .before .before .before .before .before .before .before .before .before .args in
     let w = c .before .before .before .before .write-image .ensures .0 in
     let i = image-replies (c .before .before .before .before .before .before .state-of .result) (a .out .now) in
-    omega (arith, i .small, ap (λ (v : Written). v .length) w)
+    omega (arith, i .length-at-most, ap (λ (v : Written). v .length) w)
 
 mul-result : tie.Need-mul-result
 mul-result c =
     let a = c .before .before .before .before .before .before .before .before .before .before .before .args in
     let w = c .before .before .before .before .write-image .ensures .0 in
     let i = image-replies (c .before .before .before .before .before .before .state-of .result) (a .out .now) in
-    omega (arith, i .small, ap (λ (v : Written). v .length) w)
+    omega (arith, i .length-at-most, ap (λ (v : Written). v .length) w)
 
 add-result : tie.Need-add-result
 add-result c =
     let a = c .before .before .before .before .before .before .before .before .before .before .before .args in
     let w = c .before .before .before .before .write-image .ensures .0 in
     let i = image-replies (c .before .before .before .before .before .before .state-of .result) (a .out .now) in
-    omega (arith, i .small, i .few, ap (λ (v : Written). v .length) w, ap (λ (v : Written). v .refusal) w)
+    omega (arith, i .length-at-most, i .number-is-byte, ap (λ (v : Written). v .length) w, ap (λ (v : Written). v .refusal) w)
 
 same-length : tie.Need-same-length
 same-length c = search needs
@@ -61,7 +61,7 @@ returns-2 c =
     let i = image-replies (c .before .before .before .before .before .before .state-of .result) (a .out .now) in
     let e : imageReply (c .before .before .before .before .before .before .state-of .result) ≡ replayWriteImage (a .state .now) =
     ap imageReply (c .before .before .before .before .before .before .state-of .ensures) ∙ on-state (a .state .now) imageReply (sym (c .before .before .before .before .before .before .before .before .width-refusal .ensures) ∙ c .before .before .before .before .before .before .before .if1 .left) in
-    (rw w (i .answer) ∙ ap (λ (m : Reply). numberAndLength m (a .out .now)) e, c .before .before .before .before .write-image .ensures .1 ∙ i .after ∙ ap (λ (m : Reply). outAfter m (a .out .now)) e)
+    (rw w (i .answer) ∙ ap (λ (m : Reply). numberAndLength m (a .out .now)) e, c .before .before .before .before .write-image .ensures .1 ∙ i .buffer-after ∙ ap (λ (m : Reply). outAfter m (a .out .now)) e)
 
 pub replay-write-image-spec : {M : Type 1} → statement M
 replay-write-image-spec =

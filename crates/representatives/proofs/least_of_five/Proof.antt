@@ -3,7 +3,7 @@ use mathlib.Core.Path.{_≡_, sym, ap, _∙_}
 use native.Mathlib.Omega.{arith}
 use Rattle.cluster.specs.State.{replicaCount}
 use Rattle.renamings.specs.Rename.{Renames}
-use Rattle.renamings.specs.Fitting.{factorial, counted}
+use Rattle.renamings.specs.Fitting.{factorial, counts-are-factorials}
 use Rattle.representatives.specs.Search.{leastBehind, first-renames, least-start, least-done}
 use Rattle.representatives.specs.Representative.{leastRenaming}
 use borrow.Author.Needs.{needs}
@@ -19,7 +19,7 @@ abbrev μ-loop : tie.MeasureT-loop
 
 -- five replicas have all rows
 all-rows : (c : tie.Start Inv-loop μ-loop) → factorial (replicaCount (c .args .s .limits)) ≡ 120
-all-rows c = ap factorial (c .pre .1) ∙ sym (counted 5 (omega arith))
+all-rows c = ap factorial (c .pre .1) ∙ sym (counts-are-factorials 5 (omega arith))
 
 loop-holds : tie.Need-loop-holds Inv-loop μ-loop
 loop-holds c = ((0, omega arith), omega arith, first-renames (c .args .s) (c .pre .0), sym (least-start (c .args .s) (c .pre .0)))

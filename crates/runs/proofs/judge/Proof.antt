@@ -5,7 +5,7 @@ use native.Mathlib.Omega.{arith}
 use borrow.Author.Needs.{needs}
 use Rattle.parts.specs.Refusal.{accepted}
 use Rattle.cluster.specs.declared.Outcome.{Outcome}
-use Rattle.runs.specs.Run.{configurationWidth, opening, recordsOf, traceFrom, verdictFrom, unopened, judge}
+use Rattle.runs.specs.Run.{configurationWidth, opening, runRecordsOf, traceFrom, verdictFrom, unopened, judge}
 use Rattle.questions.specs.declared.Property.the-variants.{WeakIsr, StrongIsr}
 use Rattle.runs.specs.Opening.{opening-too-long, opening-too-short, opening-configures, opening-rules, opening-tidy, opening-holds, opened, judge-unopened}
 use Rattle.runs.proofs.judge.Statement.{statement}
@@ -70,7 +70,7 @@ returns-4 c =
     let z = c .before .before .before in
     let run = z .before .before .before .before .before .args .run .now in
     c .judge-actions .ensures
-    ∙ ap (λ (o : Outcome). verdictFrom (o .state) (traceFrom (o .state) configurationWidth (recordsOf run))) (sym (configured z))
+    ∙ ap (λ (o : Outcome). verdictFrom (o .state) (traceFrom (o .state) configurationWidth (runRecordsOf run))) (sym (configured z))
     ∙ sym (opened run (ap (λ (o : Outcome). o .refusal) (configured z) ∙ c .before .if3 .left))
 
 pub judge-spec : {M : Type 1} → statement M

@@ -16,11 +16,11 @@ use Rattle.cluster.specs.State.{tidy}
 use Rattle.cluster.specs.Rules.{rules}
 use Rattle.cluster.specs.Act.{actionRefusal, effect}
 use Rattle.actions.specs.Kept.{Kept}
-use Rattle.runs.specs.declared.record.ActionRecord.{ActionRecord}
+use Rattle.runs.specs.declared.run_record.ActionRecord.{ActionRecord}
 use Rattle.runs.specs.declared.Tally.{Tally}
-use Rattle.runs.specs.Run.{configurationWidth, recordWidth, actOn, recordsOf, stepOn, traceFrom, verdictFrom}
-use Rattle.runs.specs.RecordLaws.{readAction, short-number, read-number, accepted-number, accepted-state, act-on-kept}
-use Rattle.runs.specs.Judging.{acceptedStep, step-accepted, tallyAfter, KnownOfState, known-begun, narrowed, known-after, verdictAt, recordHere, fromHere, here-begun, here-end, here-refused, here-on}
+use Rattle.runs.specs.Run.{configurationWidth, runRecordWidth, actOn, runRecordsOf, stepOn, traceFrom, verdictFrom}
+use Rattle.runs.specs.RunRecordLaws.{readAction, short-number, read-number, accepted-number, accepted-state, act-on-kept}
+use Rattle.runs.specs.Judging.{acceptedStep, step-accepted, tallyAfter, KnownOfState, known-begun, narrowed, known-after, verdictAt, runRecordHere, fromHere, here-begun, here-end, here-refused, here-on}
 use Rattle.runs.proofs.judge_actions.Statement.{statement}
 use Rattle.runs.proofs.judge_actions.Tie as tie
 
@@ -38,7 +38,7 @@ abbrev runAt : tie.At-loop Inv-loop μ-loop → List ℕ
 runAt z = z .before .before .before .args .run .now
 
 abbrev nextAt : tie.At-loop Inv-loop μ-loop → List ℕ
-nextAt z = recordHere (runAt z) (z .loop .at)
+nextAt z = runRecordHere (runAt z) (z .loop .at)
 
 abbrev answerAt : tie.At-loop Inv-loop μ-loop → ActionAnswer
 answerAt z = actOn (z .loop .state) (nextAt z)
@@ -46,7 +46,7 @@ answerAt z = actOn (z .loop .state) (nextAt z)
 -- the verdict of the run is the one from here
 whole : (z : tie.At-loop Inv-loop μ-loop)
     → let fresh = z .before .before .before .args .fresh in
-    verdictFrom fresh (traceFrom fresh configurationWidth (recordsOf (runAt z))) ≡ fromHere (z .loop .tally) (z .loop .state) (z .loop .at) (runAt z)
+    verdictFrom fresh (traceFrom fresh configurationWidth (runRecordsOf (runAt z))) ≡ fromHere (z .loop .tally) (z .loop .state) (z .loop .at) (runAt z)
 whole z =
     let fresh = z .before .before .before .args .fresh in
     here-begun fresh (runAt z)
@@ -57,7 +57,7 @@ whole z =
 stops : (z : tie.At-loop Inv-loop μ-loop) (number : ℕ) → z .loop .at < length (runAt z)
     → number ≡ answerAt z .refusal → (number ≡ accepted → ⊥)
     → let fresh = z .before .before .before .args .fresh in
-    verdictAt (z .loop .tally) number (z .loop .at) (z .loop .state) ≡ verdictFrom fresh (traceFrom fresh configurationWidth (recordsOf (runAt z)))
+    verdictAt (z .loop .tally) number (z .loop .at) (z .loop .state) ≡ verdictFrom fresh (traceFrom fresh configurationWidth (runRecordsOf (runAt z)))
 stops z number h e refused =
     let l = z .loop in
     ap (λ (n : ℕ). verdictAt (l .tally) n (l .at) (l .state)) e
@@ -65,13 +65,13 @@ stops z number h e refused =
     ∙ sym (whole z)
 
 -- the part of the run that the reader takes is that record, and has six bytes
-part : (z : tie.At-loop Inv-loop μ-loop) → take (z .loop .at + recordWidth - z .loop .at) (drop (z .loop .at) (runAt z)) ≡ nextAt z
-part z = ap (λ (k : ℕ). take k (drop (z .loop .at) (runAt z))) (add-sub-cancel-left (z .loop .at) recordWidth)
+part : (z : tie.At-loop Inv-loop μ-loop) → take (z .loop .at + runRecordWidth - z .loop .at) (drop (z .loop .at) (runAt z)) ≡ nextAt z
+part z = ap (λ (k : ℕ). take k (drop (z .loop .at) (runAt z))) (add-sub-cancel-left (z .loop .at) runRecordWidth)
 
-six : (z : tie.Else1 Inv-loop μ-loop) → length (nextAt (z .before .before)) ≡ recordWidth
+six : (z : tie.Else1 Inv-loop μ-loop) → length (nextAt (z .before .before)) ≡ runRecordWidth
 six z =
     let l = z .before .before in
-    length-take-le recordWidth (drop (l .loop .at) (runAt l)) (rw length-drop (omega arith))
+    length-take-le runRecordWidth (drop (l .loop .at) (runAt l)) (rw length-drop (omega arith))
 
 begun-requires : tie.Need-begun-requires Inv-loop μ-loop
 begun-requires c κs = search needs
@@ -214,7 +214,7 @@ loop-again c =
       rw (e, handed (c .before)) (known-after (z .loop .tally) (stepOn (z .loop .state) (nextAt z))),
       z .loop .inv .5
           ∙ here-on (z .loop .tally) (z .loop .state) (z .loop .at) (runAt z) (omega (arith, fits)) (ok (c .before .before .before))
-          ∙ ap₂ (λ (tally : Tally) (s : State). fromHere tally s (z .loop .at + recordWidth) (runAt z)) (sym e) (sym (handed (c .before))),
+          ∙ ap₂ (λ (tally : Tally) (s : State). fromHere tally s (z .loop .at + runRecordWidth) (runAt z)) (sym e) (sym (handed (c .before))),
     )
 
 verdict-requires-3 : tie.Need-verdict-requires-3 Inv-loop μ-loop

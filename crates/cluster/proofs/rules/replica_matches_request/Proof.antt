@@ -15,18 +15,18 @@ use Rattle.cluster.proofs.rules.replica_matches_request.Statement.{stat
 use Rattle.cluster.proofs.rules.replica_matches_request.Tie as tie
 
 -- the epoch's bits, read back
-back : (c : tie.Start) → toZ w8 (ofZ w8 (c .args .epoch)) ≡ c .args .epoch
-back c = toZ-ofZ (c .fits .epoch)
+epoch-back : (c : tie.Start) → toZ w8 (ofZ w8 (c .args .epoch)) ≡ c .args .epoch
+epoch-back c = toZ-ofZ (c .fits .epoch)
 
 -- what the calls say of the epoch
 none : (c : tie.After-same-epoch) → c .same-epoch .result ≡ sameEpoch (c .before .args .epoch) noEpoch
-none c = c .same-epoch .ensures ∙ ap (λ z. sameEpoch z noEpoch) (back (c .before))
+none c = c .same-epoch .ensures ∙ ap (λ z. sameEpoch z noEpoch) (epoch-back (c .before))
 
 used : (c : tie.After-epoch-used) → c .epoch-used .result ≡ epochUsed (c .before .before .before .args .next) (c .before .before .before .args .epoch)
-used c = c .epoch-used .ensures ∙ ap (epochUsed (c .before .before .before .args .next)) (back (c .before .before .before))
+used c = c .epoch-used .ensures ∙ ap (epochUsed (c .before .before .before .args .next)) (epoch-back (c .before .before .before))
 
 place : (c : tie.After-request-place) → c .request-place .result ≡ requestPlace (c .before .before .before .before .before .args .epoch)
-place c = c .request-place .ensures ∙ ap requestPlace (back (c .before .before .before .before .before))
+place c = c .request-place .ensures ∙ ap requestPlace (epoch-back (c .before .before .before .before .before))
 
 in-use : (c : tie.After-request-place) → let a = c .before .before .before .before .before .args in epochUsed (a .next) (a .epoch) ≡ true
 in-use c = sym (used (c .before .before)) ∙ c .before .if2 .taken

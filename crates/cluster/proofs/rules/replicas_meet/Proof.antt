@@ -7,12 +7,12 @@ use borrow.Author.Needs.{needs}
 use borrow.Author.Tests.{not-true, not-false}
 use Rattle.logic.specs.Tests.{allBelow, all-none, all-more, all-done, all-fails, every-no, every-and, every-none, every-fails}
 use Rattle.logic.specs.Concat.{concatBelow}
-use Rattle.logic.specs.Marks.{Passed, passing-start, passing-more, passing-end}
-use Rattle.replica.specs.MarkLaws.{log-passes}
+use Rattle.logic.specs.Entries.{Passed, passing-start, passing-more, passing-end}
+use Rattle.replica.specs.EntryLaws.{log-passes}
 use Rattle.cluster.specs.State.{nextLeaderEpoch, nextRecordId, replicaIn}
 use Rattle.cluster.specs.Rules.{replicaInRangeAt, replicaMeetsS5At, rule5, logInUseAt, rule6}
 use Rattle.cluster.specs.RuleLaws.{end-in-range}
-use Rattle.cluster.specs.Marks.{entriesAt}
+use Rattle.cluster.specs.Entries.{entriesAt}
 use Rattle.cluster.specs.OnePass.{passTests, log-fails}
 use Rattle.cluster.proofs.rules.replicas_meet.Statement.{statement}
 use Rattle.cluster.proofs.rules.replicas_meet.Tie as tie

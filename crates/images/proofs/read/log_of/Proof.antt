@@ -5,14 +5,14 @@ use lib.ListN.{drop, replicate}
 use lib.Seq.{drop-drop}
 use borrow.Author.Needs.{needs}
 use Rattle.replica.specs.Replica.{zeroRecord}
-use Rattle.replica.specs.ReplicaBytes.{recordWidth, recordOf}
-use Rattle.images.specs.Layout.{partAt, storedBelow, recordsOf}
+use Rattle.replica.specs.ReplicaBytes.{logRecordWidth, recordOf}
+use Rattle.images.specs.Layout.{partAt, storedBelow, logRecordsOf}
 use Rattle.images.specs.ReadLaws.{stored-below-more}
 use Rattle.images.proofs.read.log_of.Statement.{statement}
 use Rattle.images.proofs.read.log_of.Tie as tie
 
 abbrev Inv-loop : tie.InvT-loop
-Inv-loop bytes at count log₀ x₀ log x = (x ≤ count) × (log ≡ recordsOf x (drop at bytes))
+Inv-loop bytes at count log₀ x₀ log x = (x ≤ count) × (log ≡ logRecordsOf x (drop at bytes))
 
 abbrev μ-loop : tie.MeasureT-loop
 μ-loop bytes at count log₀ x₀ log x = count - x
@@ -47,17 +47,17 @@ loop-again c =
     let a = c .before .before .before .before .args in
     let l = c .before .before .loop in
     let bs = drop (a .at) (a .bytes .now) in
-    let r : c .record-of .result ≡ partAt recordWidth recordOf bs (l .x) =
-    c .record-of .ensures ∙ ap recordOf (sym (drop-drop (recordWidth * l .x) (a .at) (a .bytes .now))) in (
+    let r : c .record-of .result ≡ partAt logRecordWidth recordOf bs (l .x) =
+    c .record-of .ensures ∙ ap recordOf (sym (drop-drop (logRecordWidth * l .x) (a .at) (a .bytes .now))) in (
       omega arith,
-      rw (l .inv .1, r) (stored-below-more (l .x) (partAt recordWidth recordOf bs) (replicate 16 zeroRecord)),
+      rw (l .inv .1, r) (stored-below-more (l .x) (partAt logRecordWidth recordOf bs) (replicate 16 zeroRecord)),
     )
 
 returns : tie.Need-returns Inv-loop μ-loop
 returns c =
     let l = c .before .loop in
     let e : l .x ≡ c .before .before .before .args .count = omega arith in
-    l .inv .1 ∙ ap (λ (n : ℕ). recordsOf n (drop (c .before .before .before .args .at) (c .before .before .before .args .bytes .now))) e
+    l .inv .1 ∙ ap (λ (n : ℕ). logRecordsOf n (drop (c .before .before .before .args .at) (c .before .before .before .args .bytes .now))) e
 
 pub log-of-spec : {M : Type 1} → statement M
 log-of-spec =

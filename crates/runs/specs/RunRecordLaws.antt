@@ -1,4 +1,4 @@
--- What a record answers, by its length and its mark, and what it keeps of the state before it. Assumes nothing.
+-- What a record of a run answers, by its length and its mark, and what it keeps of the state before it. Assumes nothing.
 use Prim.Native.Nat.{ℕ, zero, suc, _≤_, _<_}
 use mathlib.Core.Path.{_≡_, refl, sym, ap, ap₂, _∙_, subst}
 use mathlib.Core.Bool.{true, false, not}
@@ -7,7 +7,7 @@ use mathlib.Core.Logic.{_↔_}
 use native.Mathlib.Omega.{arith}
 use lib.ListN.{length}
 use borrow.Author.Tests.{lt-ltb, le-ltb, ltb-false, not-false}
-use Rattle.logic.specs.Refuse.{refuse-yes, refuse-no, refuse-zero, firstRefusal, first-yes, first-zero, by-accepted, by-refused, by-cases, by-first}
+use Rattle.logic.specs.Refuse.{refuse-yes, refuse-no, refuse-zero, firstRefusal, first-yes, first-zero, by-accepted, by-refused, by-either, by-first}
 use Rattle.parts.specs.Refusal.{accepted, wrongMark, tooShort}
 use Rattle.parts.specs.Mark.{marked}
 use Rattle.cluster.specs.declared.State.{State}
@@ -17,8 +17,8 @@ use Rattle.cluster.specs.Rules.{rules}
 use Rattle.cluster.specs.Act.{actionRefusal, refusedOn, effect, step, act}
 use Rattle.cluster.specs.ActLaws.{answer-number, answer-zero}
 use Rattle.actions.specs.Kept.{Kept, kept-same, step-kept, step-is-act}
-use Rattle.runs.specs.declared.record.ActionRecord.{ActionRecord}
-use Rattle.runs.specs.Run.{recordWidth, actionMark, markRefusal, recordRefusal, actionIn, actOn}
+use Rattle.runs.specs.declared.run_record.ActionRecord.{ActionRecord}
+use Rattle.runs.specs.Run.{runRecordWidth, actionMark, markRefusal, runRecordRefusal, actionIn, actOn}
 
 -- ---- the number of a record's mark, and that of its length and its mark
 module _ (mark : ℕ) (bytes : List ℕ) where
@@ -36,22 +36,22 @@ module _ (mark : ℕ) (bytes : List ℕ) where
 
   module _ (width : ℕ) where
     -- too short; as long as it has to be
-    pub record-short : length bytes < width → tooShort ≡ recordRefusal width mark bytes
-    unfolding recordRefusal
-    record-short h = refuse-yes _ tooShort (markRefusal mark bytes) (lt-ltb (length bytes) width h)
+    pub run-record-short : length bytes < width → tooShort ≡ runRecordRefusal width mark bytes
+    unfolding runRecordRefusal
+    run-record-short h = refuse-yes _ tooShort (markRefusal mark bytes) (lt-ltb (length bytes) width h)
 
-    pub record-long : width ≤ length bytes → markRefusal mark bytes ≡ recordRefusal width mark bytes
-    unfolding recordRefusal
-    record-long h = refuse-no _ tooShort (markRefusal mark bytes) (le-ltb (length bytes) width h)
+    pub run-record-long : width ≤ length bytes → markRefusal mark bytes ≡ runRecordRefusal width mark bytes
+    unfolding runRecordRefusal
+    run-record-long h = refuse-no _ tooShort (markRefusal mark bytes) (le-ltb (length bytes) width h)
 
     -- it is 0 exactly where the record has its bytes and its mark
-    pub record-whole : recordRefusal width mark bytes ≡ accepted ↔ (width ≤ length bytes) × (marked mark bytes ≡ true)
-    unfolding recordRefusal
-    record-whole = (
+    pub run-record-whole : runRecordRefusal width mark bytes ≡ accepted ↔ (width ≤ length bytes) × (marked mark bytes ≡ true)
+    unfolding runRecordRefusal
+    run-record-whole = (
       (λ h.
           let p = refuse-zero _ _ _ h in
           (ltb-false (length bytes) width (p .0), right-mark (p .1))),
-      (λ p. sym (record-long (p .0)) ∙ sym (mark-right (p .1))),
+      (λ p. sym (run-record-long (p .0)) ∙ sym (mark-right (p .1))),
     )
 
 -- ---- the record of an action
@@ -61,30 +61,30 @@ readAction bytes = record { refusal = markRefusal actionMark bytes; action = act
 
 module _ (s : State) (bytes : List ℕ) where
   -- a whole one answers as its action does
-  pub whole-acts : recordRefusal recordWidth actionMark bytes ≡ accepted → actOn s bytes ≡ act s (actionIn bytes)
+  pub whole-acts : runRecordRefusal runRecordWidth actionMark bytes ≡ accepted → actOn s bytes ≡ act s (actionIn bytes)
   unfolding actOn
   whole-acts whole = sym (by-accepted _ (refusedOn s) (act s (actionIn bytes)) whole)
 
   -- any other by its own number, with the state before it
-  pub unread : (recordRefusal recordWidth actionMark bytes ≡ accepted → ⊥)
-      → actOn s bytes ≡ refusedOn s (recordRefusal recordWidth actionMark bytes)
+  pub unread : (runRecordRefusal runRecordWidth actionMark bytes ≡ accepted → ⊥)
+      → actOn s bytes ≡ refusedOn s (runRecordRefusal runRecordWidth actionMark bytes)
   unfolding actOn
   unread torn = sym (by-refused _ (refusedOn s) (act s (actionIn bytes)) torn)
 
   -- so the number is the record's own, and then the action's
-  pub record-number : firstRefusal (recordRefusal recordWidth actionMark bytes) (act s (actionIn bytes) .refusal) ≡ actOn s bytes .refusal
+  pub run-record-number : firstRefusal (runRecordRefusal runRecordWidth actionMark bytes) (act s (actionIn bytes) .refusal) ≡ actOn s bytes .refusal
   unfolding actOn
-  record-number = by-first (λ (a : ActionAnswer). a .refusal) _ (refusedOn s) (act s (actionIn bytes)) (λ k. refl)
+  run-record-number = by-first (λ (a : ActionAnswer). a .refusal) _ (refusedOn s) (act s (actionIn bytes)) (λ k. refl)
 
   -- it is 21 where the record is too short
-  pub short-number : length bytes < recordWidth → tooShort ≡ actOn s bytes .refusal
+  pub short-number : length bytes < runRecordWidth → tooShort ≡ actOn s bytes .refusal
   short-number h =
-      let e = record-short actionMark bytes recordWidth h in
-      e ∙ first-yes _ _ (λ q. let w : tooShort ≡ accepted = e ∙ q in omega arith) ∙ record-number
+      let e = run-record-short actionMark bytes runRecordWidth h in
+      e ∙ first-yes _ _ (λ q. let w : tooShort ≡ accepted = e ∙ q in omega arith) ∙ run-record-number
 
   -- an accepted one is whole
-  pub accepted-whole : actOn s bytes .refusal ≡ accepted → recordRefusal recordWidth actionMark bytes ≡ accepted
-  accepted-whole ok = first-zero _ (act s (actionIn bytes) .refusal) (record-number ∙ ok) .0
+  pub accepted-whole : actOn s bytes .refusal ≡ accepted → runRecordRefusal runRecordWidth actionMark bytes ≡ accepted
+  accepted-whole ok = first-zero _ (act s (actionIn bytes) .refusal) (run-record-number ∙ ok) .0
 
   pub accepted-acts : actOn s bytes .refusal ≡ accepted → actOn s bytes ≡ act s (actionIn bytes)
   accepted-acts ok = whole-acts (accepted-whole ok)
@@ -98,10 +98,10 @@ module _ (s : State) (bytes : List ℕ) (h : rules s ≡ true) (t : tidy s ≡ s
       ap (λ (a : ActionAnswer). a .refusal) (sym (step-is-act s (actionIn bytes) h t)) ∙ answer-number _ s (effect s (actionIn bytes))
 
   -- the number of a record that has its bytes, from what is read of it
-  pub read-number : recordWidth ≤ length bytes
+  pub read-number : runRecordWidth ≤ length bytes
       → firstRefusal (readAction bytes .refusal) (actionRefusal s (readAction bytes .action)) ≡ actOn s bytes .refusal
   read-number long =
-      ap₂ firstRefusal (record-long actionMark bytes recordWidth long) (sym act-number-is) ∙ record-number s bytes
+      ap₂ firstRefusal (run-record-long actionMark bytes runRecordWidth long) (sym act-number-is) ∙ run-record-number s bytes
 
   -- an accepted one: its action is accepted, and the effect of that is the state that the record hands back
   pub accepted-number : actOn s bytes .refusal ≡ accepted → actionRefusal s (actionIn bytes) ≡ accepted
@@ -117,6 +117,6 @@ module _ (s : State) (bytes : List ℕ) (h : rules s ≡ true) (t : tidy s ≡ s
   pub act-on-kept : Kept s (actOn s bytes .state)
   unfolding actOn
   act-on-kept =
-      by-cases (λ (a : ActionAnswer). Kept s (a .state)) (recordRefusal recordWidth actionMark bytes) (refusedOn s) (act s (actionIn bytes))
+      by-either (λ (a : ActionAnswer). Kept s (a .state)) (runRecordRefusal runRecordWidth actionMark bytes) (refusedOn s) (act s (actionIn bytes))
       (λ e. subst (λ (a : ActionAnswer). Kept s (a .state)) (step-is-act s (actionIn bytes) h t) (step-kept s (actionIn bytes) h t))
       (λ e. kept-same s h t)

@@ -1,10 +1,10 @@
 use Prim.Native.Nat.{ℕ}
 use mathlib.Core.Path.{ap}
 use borrow.Author.Needs.{needs}
-use Rattle.runs.specs.declared.record.ActionRecord.{ActionRecord}
+use Rattle.runs.specs.declared.run_record.ActionRecord.{ActionRecord}
 use Rattle.runs.specs.Run.{actionIn}
-use Rattle.runs.proofs.record.read_action.Statement.{statement}
-use Rattle.runs.proofs.record.read_action.Tie as tie
+use Rattle.runs.proofs.run_record.read_action.Statement.{statement}
+use Rattle.runs.proofs.run_record.read_action.Tie as tie
 
 mark-refusal-requires : tie.Need-mark-refusal-requires
 mark-refusal-requires c κs = search needs

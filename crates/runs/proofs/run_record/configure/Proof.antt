@@ -5,17 +5,17 @@ use Rattle.logic.specs.Refuse.{by-accepted, by-refused}
 use Rattle.cluster.specs.State.{limitsOf}
 use Rattle.cluster.specs.Outcome.{answer, withZeros}
 use Rattle.cluster.specs.Fresh.{fresh}
-use Rattle.runs.specs.Run.{configurationWidth, configurationMark, recordRefusal, configure}
-use Rattle.runs.specs.RecordLaws.{record-long}
-use Rattle.runs.proofs.record.configure.Statement.{statement}
-use Rattle.runs.proofs.record.configure.Tie as tie
+use Rattle.runs.specs.Run.{configurationWidth, configurationMark, runRecordRefusal, configure}
+use Rattle.runs.specs.RunRecordLaws.{run-record-long}
+use Rattle.runs.proofs.run_record.configure.Statement.{statement}
+use Rattle.runs.proofs.run_record.configure.Tie as tie
 
 mark-refusal-requires : tie.Need-mark-refusal-requires
 mark-refusal-requires c κs = search needs
 
 -- the number is that of the configuration
-number : (z : tie.After-mark-refusal) → z .mark-refusal .result ≡ recordRefusal configurationWidth configurationMark (z .before .before .args .bytes .now)
-number z = z .mark-refusal .ensures ∙ record-long configurationMark (z .before .before .args .bytes .now) configurationWidth (omega arith)
+number : (z : tie.After-mark-refusal) → z .mark-refusal .result ≡ runRecordRefusal configurationWidth configurationMark (z .before .before .args .bytes .now)
+number z = z .mark-refusal .ensures ∙ run-record-long configurationMark (z .before .before .args .bytes .now) configurationWidth (omega arith)
 
 zero-requires : tie.Need-zero-requires
 zero-requires c κs = search needs

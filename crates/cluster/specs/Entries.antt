@@ -1,4 +1,4 @@
--- S7 by marks: of states that meet S6, one pass over the records of all logs decides it. Assumes nothing.
+-- S7 by entries: of states that meet S6, one pass over the records of all logs decides it. Assumes nothing.
 use Prim.Native.Nat.{ℕ, _<_}
 use mathlib.Core.Path.{_≡_, sym, _∙_, ap}
 use mathlib.Core.Bool.{true}
@@ -8,12 +8,12 @@ use native.Mathlib.Omega.{arith}
 use lib.ListN.{replicate}
 use Rattle.logic.specs.Tests.{bool-ext}
 use Rattle.logic.specs.Concat.{concatBelow}
-use Rattle.logic.specs.Marks.{Entry, agreeAll, In, Markable, Alike, agree-alike, in-concat, in-some}
+use Rattle.logic.specs.Entries.{Entry, agreeAll, In, Storable, Alike, agree-alike, in-concat, in-some}
 use Rattle.replica.specs.declared.Replica.{Replica}
 use Rattle.replica.specs.Replica.{recordAt}
 use Rattle.replica.specs.LogLaws.{Agree}
-use Rattle.replica.specs.Marks.{markOf, entryOf, logEntries}
-use Rattle.replica.specs.MarkLaws.{mark-some, marks-agree, entry-of-record, record-entered}
+use Rattle.replica.specs.Entries.{offsetAndEpoch, entryOf, logEntries}
+use Rattle.replica.specs.EntryLaws.{value-some, values-agree, entry-of-record, record-entered}
 use Rattle.cluster.specs.declared.State.{State}
 use Rattle.cluster.specs.State.{replicaCount, nextLeaderEpoch, nextRecordId, replicaIn, replicaAt}
 use Rattle.cluster.specs.Rules.{rule6, rule7, Bounded}
@@ -49,24 +49,24 @@ module _ (s : State) (ids : nextRecordId s < 256) (bounded : Bounded s)
       in-some (entriesAt (s .replicas)) (replicaCount (s .limits)) i (entryOf (recordAt (replicaAt s i) x) x) (h .replica)
       (record-entered (replicaAt s i) x (h .offset))
 
-  markable : (e : Entry) → In e entries → Markable 256 e
-  markable e i =
+  storable : (e : Entry) → In e entries → Storable 256 e
+  storable e i =
       let o = of-log e i in
       let id : e .id ≡ recordAt (replicaAt s (o .replica)) (o .offset) .id = ap (λ (v : Entry). v .id) (o .is) in
       record {
         place = omega (arith, id, rule6-iff s .0 six (o .replica) (o .offset) (o .has) .id);
-        some = λ z. mark-some (recordAt (replicaAt s (o .replica)) (o .offset)) (o .offset) (sym (ap (λ (v : Entry). v .mark) (o .is)) ∙ z);
+        some = λ z. value-some (recordAt (replicaAt s (o .replica)) (o .offset)) (o .offset) (sym (ap (λ (v : Entry). v .value) (o .is)) ∙ z);
       }
 
-  -- the records that the logs have agree exactly where their marks do
+  -- the records that the logs have agree exactly where the values of their entries do
   agree-of : (i x j y : ℕ) → Has s i x → Has s j y
-      → markOf (recordAt (replicaAt s i) x) x ≡ markOf (recordAt (replicaAt s j) y) y
+      → offsetAndEpoch (recordAt (replicaAt s i) x) x ≡ offsetAndEpoch (recordAt (replicaAt s j) y) y
       ↔ Agree (recordAt (replicaAt s i) x) x (recordAt (replicaAt s j) y) y
   agree-of i x j y m k =
-      marks-agree (nextRecordId s) (nextLeaderEpoch s) (recordAt (replicaAt s i) x) (recordAt (replicaAt s j) y) x y
+      values-agree (nextRecordId s) (nextLeaderEpoch s) (recordAt (replicaAt s i) x) (recordAt (replicaAt s j) y) x y
       (omega (arith, bounded .requests)) (rule6-iff s .0 six i x m) (rule6-iff s .0 six j y k)
 
-  -- so entries of one id have one mark exactly where S7 holds
+  -- so entries of one id have one value exactly where S7 holds
   s7-of : ((d e : Entry) → In d entries → In e entries → Alike d e) → S7 s
   s7-of f i x j y m k z = agree-of i x j y m k .0 (f _ _ (entered i x m) (entered j y k) z)
 
@@ -76,15 +76,15 @@ module _ (s : State) (ids : nextRecordId s < 256) (bounded : Bounded s)
       let b = of-log e j in
       let id : recordAt (replicaAt s (a .replica)) (a .offset) .id ≡ recordAt (replicaAt s (b .replica)) (b .offset) .id =
       sym (ap (λ (v : Entry). v .id) (a .is)) ∙ z ∙ ap (λ (v : Entry). v .id) (b .is) in
-      ap (λ (v : Entry). v .mark) (a .is)
+      ap (λ (v : Entry). v .value) (a .is)
       ∙ agree-of (a .replica) (a .offset) (b .replica) (b .offset) (a .has) (b .has) .1
       (f (a .replica) (a .offset) (b .replica) (b .offset) (a .has) (b .has) id)
-      ∙ sym (ap (λ (v : Entry). v .mark) (b .is))
+      ∙ sym (ap (λ (v : Entry). v .value) (b .is))
 
   -- so the pass decides S7
-  pub marks-decide : agreeAll (replicate 256 0) (concatBelow (replicaCount (s .limits)) (entriesAt (s .replicas)))
+  pub entries-decide : agreeAll (replicate 256 0) (concatBelow (replicaCount (s .limits)) (entriesAt (s .replicas)))
       ≡ rule7 (replicaCount (s .limits)) (s .replicas)
   unfolding entries
-  marks-decide =
-      let w = agree-alike 256 entries markable in
+  entries-decide =
+      let w = agree-alike 256 entries storable in
       bool-ext _ _ (λ h. rule7-iff s .1 (s7-of (w .0 h))) (λ h. w .1 (alike-of (rule7-iff s .0 h)))

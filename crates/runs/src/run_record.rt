@@ -1,4 +1,4 @@
-// The readers of a record. Each takes the bytes of its record as a part of the run, and its caller shows that all are there.
+// The readers of a run's records. Each takes the bytes of its record as a part of the run; its caller shows that all are there.
 ghost use mathlib.Core.Path.{_≡_};
 ghost use mathlib.Core.Bool.{true};
 ghost use Prim.Native.Nat.{_≤_};
@@ -7,8 +7,8 @@ ghost use Rattle.logic.specs.Refuse.{firstRefusal};
 ghost use Rattle.cluster.specs.State.{tidy};
 ghost use Rattle.cluster.specs.Rules.{rules};
 ghost use Rattle.cluster.specs.Act.{actionRefusal};
-ghost use Rattle.runs.specs.Run.{configurationWidth, recordWidth, markRefusal, configure};
-ghost use Rattle.runs.specs.RecordLaws.{readAction};
+ghost use Rattle.runs.specs.Run.{configurationWidth, runRecordWidth, markRefusal, configure};
+ghost use Rattle.runs.specs.RunRecordLaws.{readAction};
 use cluster::Action;
 use cluster::Outcome;
 use cluster::State;
@@ -54,9 +54,9 @@ pub(crate) struct ActionRecord {
     pub(crate) action: Action,
 }
 
-// Reads the record of an action.
+// Reads the record of an action. The four bytes behind the mark are the action, whatever the mark is.
 pub(crate) fn read_action(bytes: &[u8]) -> ActionRecord
-    requires { ⌜ length (now bytes) ≡ recordWidth ⌝ }
+    requires { ⌜ length (now bytes) ≡ runRecordWidth ⌝ }
     ensures { λ r. ⌜ r ≡ readAction (now (bytes .entry)) ⌝ }
 {
     ActionRecord {

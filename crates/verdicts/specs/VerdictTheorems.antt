@@ -1,4 +1,19 @@
 -- The verdict of a run: where it stops, which numbers refuse it, and the bounds of what is counted. Assumes nothing.
+--
+--   StopsAt run                        it stops at the record behind the accepted ones, on its own part of the input
+--   at-within                          it stops inside the run or at its end
+--   refused-run-record                 StopsAt holds of a refused run
+--   accepted-all                       a run is not refused exactly where all its records are accepted and it stops at its end
+--   run-record-refused-by              the number of a record on a state: 21, then 20, then its action's
+--   accepted-fills                     a run is not refused exactly where its accepted records fill it
+--   refused-by                         a refused run has the number of its next record on its last state
+--   accepted-opened, accepted-at       a run that is not refused has an accepted configuration, and stops at its end
+--   runRecordNumbers, openingNumbers   the numbers of a record's length and mark, and those before the first action
+--   runNumbers                         all numbers that refuse a run: 2 to 22 and 25
+--   run-listed                         no other number refuses a run
+--   mostActions                        10,921, the most actions that a run can hold
+--   Small v                            the bounds of the numbers of the verdict v
+--   verdict-small                      Small holds of the verdict of every run
 use Prim.Native.Nat.{ℕ, _+_, _*_, _-_, _≤_, _<_, min, zero, suc}
 use mathlib.Core.Path.{_≡_, refl, sym, ap, _∙_}
 use mathlib.Core.Bool.{Bool, true, false, not}
@@ -24,60 +39,60 @@ use Rattle.cluster.specs.FreshLaws.{freshNumbers, fresh-listed}
 use Rattle.cluster.specs.Act.{refusal, act}
 use Rattle.actions.specs.Answers.{act-number, actionNumbers, met-listed}
 use Rattle.runs.specs.declared.Verdict.{Verdict}
-use Rattle.runs.specs.Run.{configurationWidth, recordWidth, longestRun, configurationMark, actionMark, markRefusal, recordRefusal, actionIn, actOn, configurationOf, recordsOf, lengthRefusal, opening, Step, handedBack, statesIn, weakHolds, strongHolds, judge}
-use Rattle.runs.specs.RecordLaws.{record-number}
+use Rattle.runs.specs.Run.{configurationWidth, runRecordWidth, longestRun, configurationMark, actionMark, markRefusal, runRecordRefusal, actionIn, actOn, configurationOf, runRecordsOf, lengthRefusal, opening, Step, handedBack, statesIn, weakHolds, strongHolds, judge}
+use Rattle.runs.specs.RunRecordLaws.{run-record-number}
 use Rattle.runs.specs.Opening.{limitsIn, traceOf, opening-number, opening-short, opening-long, opened, judge-unopened}
-use Rattle.verdicts.specs.RunBehaviour.{nextRecord, stateAt, accepted-few, state-kept, last-kept, at-behind, all-accepted, next-refused, record-joins}
+use Rattle.verdicts.specs.RunBehaviour.{nextRunRecord, stateAt, accepted-few, state-kept, last-kept, at-behind, all-accepted, next-refused, run-record-joins}
 use Rattle.verdicts.specs.RunProperties.{exposed-run-by}
 
 -- ---- where a run stops
 -- refused: at the record behind the accepted ones, which starts inside the run and is judged on its own part of the input
 pub record StopsAt (run : List ℕ) : Type 0 where
-  pub more : judge run .tally .accepted < length (recordsOf run)
-  pub at : judge run .at ≡ configurationWidth + recordWidth * judge run .tally .accepted
+  pub more : judge run .tally .accepted < length (runRecordsOf run)
+  pub at : judge run .at ≡ configurationWidth + runRecordWidth * judge run .tally .accepted
   pub within : judge run .at < length run
-  pub bytes : nextRecord run ≡ take recordWidth (drop (judge run .at) run)
-  pub answer : actOn (judge run .state) (nextRecord run) .refusal ≡ judge run .refusal
+  pub bytes : nextRunRecord run ≡ take runRecordWidth (drop (judge run .at) run)
+  pub answer : actOn (judge run .state) (nextRunRecord run) .refusal ≡ judge run .refusal
 
 module _ (run : List ℕ) (ok : opening run .refusal ≡ accepted) where
   -- behind as many records as are accepted, but not behind the last byte
-  at-is : judge run .at ≡ configurationWidth + min (recordWidth * judge run .tally .accepted) (length run - configurationWidth)
+  at-is : judge run .at ≡ configurationWidth + min (runRecordWidth * judge run .tally .accepted) (length run - configurationWidth)
   at-is =
       let n : ℕ = judge run .tally .accepted in
       at-behind run ok
       ∙ ap (λ (k : ℕ). configurationWidth + k)
       (ap length (front-pieces 5 n (drop configurationWidth run))
-      ∙ length-take (recordWidth * n) (drop configurationWidth run)
-      ∙ ap (min (recordWidth * n)) (length-drop configurationWidth run))
+      ∙ length-take (runRecordWidth * n) (drop configurationWidth run)
+      ∙ ap (min (runRecordWidth * n)) (length-drop configurationWidth run))
 
   pub at-within : judge run .at ≤ length run
   at-within = omega (arith, at-is, opening-long run ok)
 
   -- there are at most k records exactly where k records hold the bytes behind the configuration
-  records-few : (k : ℕ) → length (recordsOf run) ≤ k ↔ length run - configurationWidth ≤ recordWidth * k
-  records-few k = rw (length-drop configurationWidth run) at (pieces-few 5 k (drop configurationWidth run))
+  run-records-few : (k : ℕ) → length (runRecordsOf run) ≤ k ↔ length run - configurationWidth ≤ runRecordWidth * k
+  run-records-few k = rw (length-drop configurationWidth run) at (pieces-few 5 k (drop configurationWidth run))
 
-  pub refused-record : (judge run .refusal ≡ accepted → ⊥) → StopsAt run
-  refused-record h =
+  pub refused-run-record : (judge run .refusal ≡ accepted → ⊥) → StopsAt run
+  refused-run-record h =
       let n : ℕ = judge run .tally .accepted in
       let next = next-refused run ok h in
-      let left : recordWidth * n < length run - configurationWidth = lt-of-not-le (λ l. omega (arith, next .0, records-few n .1 l)) in
-      let at : judge run .at ≡ configurationWidth + recordWidth * n = omega (arith, at-is, left) in
+      let left : runRecordWidth * n < length run - configurationWidth = lt-of-not-le (λ l. omega (arith, next .0, run-records-few n .1 l)) in
+      let at : judge run .at ≡ configurationWidth + runRecordWidth * n = omega (arith, at-is, left) in
       record {
         more = next .0;
         at = at;
         within = omega (arith, at, left);
         bytes = piece-at 5 n (drop configurationWidth run)
-            ∙ ap (take recordWidth) (drop-drop (recordWidth * n) configurationWidth run ∙ ap (λ (k : ℕ). drop k run) (sym at));
+            ∙ ap (take runRecordWidth) (drop-drop (runRecordWidth * n) configurationWidth run ∙ ap (λ (k : ℕ). drop k run) (sym at));
         answer = next .1;
       }
 
   -- not refused exactly where every record is accepted, and then at the end of its bytes
-  pub accepted-whole : judge run .refusal ≡ accepted ↔ (judge run .tally .accepted ≡ length (recordsOf run)) × (judge run .at ≡ length run)
-  accepted-whole = (
+  pub accepted-all : judge run .refusal ≡ accepted ↔ (judge run .tally .accepted ≡ length (runRecordsOf run)) × (judge run .at ≡ length run)
+  accepted-all = (
     (λ h.
         let all = all-accepted run ok h in
-        (all, omega (arith, at-is, records-few (judge run .tally .accepted) .0 (omega (arith, all)), opening-long run ok))),
+        (all, omega (arith, at-is, run-records-few (judge run .tally .accepted) .0 (omega (arith, all)), opening-long run ok))),
     (λ h. elim (ℕ-discrete (judge run .refusal) accepted) [
       | yes e ↦ e
       | no e ↦ absurd (omega (arith, next-refused run ok e .0, h .0))
@@ -94,47 +109,47 @@ marked-chain false true rest = refl
 marked-chain false false rest = refl
 
 -- a record on a state: "fewer than six bytes 21 .., mark 20, .. then the action's number"
-pub record-refused-by : (s : State) (bytes : List ℕ) → actOn s bytes .refusal
-    ≡ refuse (ltb (length bytes) recordWidth) tooShort (refuse (not (marked actionMark bytes)) wrongMark (act s (actionIn bytes) .refusal))
-unfolding recordRefusal markRefusal
-record-refused-by s bytes =
-    sym (record-number s bytes) ∙ marked-chain (ltb (length bytes) recordWidth) (not (marked actionMark bytes)) (act s (actionIn bytes) .refusal)
+pub run-record-refused-by : (s : State) (bytes : List ℕ) → actOn s bytes .refusal
+    ≡ refuse (ltb (length bytes) runRecordWidth) tooShort (refuse (not (marked actionMark bytes)) wrongMark (act s (actionIn bytes) .refusal))
+unfolding runRecordRefusal markRefusal
+run-record-refused-by s bytes =
+    sym (run-record-number s bytes) ∙ marked-chain (ltb (length bytes) runRecordWidth) (not (marked actionMark bytes)) (act s (actionIn bytes) .refusal)
 
 module _ (run : List ℕ) (ok : opening run .refusal ≡ accepted) where
   -- the accepted records are in the run
-  records-within : (n : ℕ) → judge run .tally .accepted ≡ n → configurationWidth + recordWidth * n ≤ length run
-  records-within zero e = omega (arith, opening-long run ok)
-  records-within (suc k) e =
-      let j = record-joins run ok k (omega (arith, e)) in
+  run-records-within : (n : ℕ) → judge run .tally .accepted ≡ n → configurationWidth + runRecordWidth * n ≤ length run
+  run-records-within zero e = omega (arith, opening-long run ok)
+  run-records-within (suc k) e =
+      let j = run-record-joins run ok k (omega (arith, e)) in
       omega (
         arith,
         j .six,
         ap length (j .bytes),
-        length-take recordWidth (drop (configurationWidth + recordWidth * k) run),
-        length-drop (configurationWidth + recordWidth * k) run,
+        length-take runRecordWidth (drop (configurationWidth + runRecordWidth * k) run),
+        length-drop (configurationWidth + runRecordWidth * k) run,
       )
 
   -- it is accepted exactly where they fill it
-  pub accepted-fills : judge run .refusal ≡ accepted ↔ length run ≡ configurationWidth + recordWidth * judge run .tally .accepted
+  pub accepted-fills : judge run .refusal ≡ accepted ↔ length run ≡ configurationWidth + runRecordWidth * judge run .tally .accepted
   accepted-fills = (
     (λ h.
-        let w = accepted-whole run ok .0 h in
+        let w = accepted-all run ok .0 h in
         let f = pieces-few 5 (judge run .tally .accepted) (drop configurationWidth run) .0 (omega (arith, w .0)) in
-        omega (arith, f, length-drop configurationWidth run, records-within (judge run .tally .accepted) refl)),
+        omega (arith, f, length-drop configurationWidth run, run-records-within (judge run .tally .accepted) refl)),
     (λ e.
         elim (ℕ-discrete (judge run .refusal) accepted) [
           | yes h ↦ h
-          | no h ↦ absurd (let s = refused-record run ok h in omega (arith, e, s .at, s .within))
+          | no h ↦ absurd (let s = refused-run-record run ok h in omega (arith, e, s .at, s .within))
         ]),
   )
 
   -- refused, it has the number of the next record on the last state
   pub refused-by : (judge run .refusal ≡ accepted → ⊥)
       → judge run .refusal
-      ≡ refuse (ltb (length (nextRecord run)) recordWidth) tooShort
-      (refuse (not (marked actionMark (nextRecord run))) wrongMark
-      (act (judge run .state) (actionIn (nextRecord run)) .refusal))
-  refused-by h = sym (refused-record run ok h .answer) ∙ record-refused-by (judge run .state) (nextRecord run)
+      ≡ refuse (ltb (length (nextRunRecord run)) runRecordWidth) tooShort
+      (refuse (not (marked actionMark (nextRunRecord run))) wrongMark
+      (act (judge run .state) (actionIn (nextRunRecord run)) .refusal))
+  refused-by h = sym (refused-run-record run ok h .answer) ∙ run-record-refused-by (judge run .state) (nextRunRecord run)
 
 -- one that is not refused has an accepted configuration, and stops at the end of its bytes
 pub accepted-opened : (run : List ℕ) → judge run .refusal ≡ accepted → opening run .refusal ≡ accepted
@@ -145,15 +160,15 @@ accepted-opened run h =
     ]
 
 pub accepted-at : (run : List ℕ) → judge run .refusal ≡ accepted → judge run .at ≡ length run
-accepted-at run h = accepted-whole run (accepted-opened run h) .0 h .1
+accepted-at run h = accepted-all run (accepted-opened run h) .0 h .1
 
 -- ---- which numbers refuse a run
 -- those of a record's length and mark, those before the first action, and all: 2 to 22 and 25
-abbrev pub recordNumbers : List ℕ
-recordNumbers = wrongMark ∷ tooShort ∷ []
+abbrev pub runRecordNumbers : List ℕ
+runRecordNumbers = wrongMark ∷ tooShort ∷ []
 
 abbrev pub openingNumbers : List ℕ
-openingNumbers = recordNumbers ++ freshNumbers ++ runTooLong ∷ []
+openingNumbers = runRecordNumbers ++ freshNumbers ++ runTooLong ∷ []
 
 abbrev pub runNumbers : List ℕ
 runNumbers = actionNumbers ++ openingNumbers
@@ -163,11 +178,11 @@ pub run-numbers : runNumbers
 run-numbers = refl
 
 -- the number of a record's length and mark is one of them
-record-listed : (l : List ℕ) (width mark : ℕ) (bytes : List ℕ) → every (map (listed l) (accepted ∷ recordNumbers)) ≡ true
-    → listed l (recordRefusal width mark bytes) ≡ true
-unfolding recordRefusal markRefusal
-record-listed l width mark bytes all =
-    let has = every-at (map (listed l) (accepted ∷ recordNumbers)) all in
+run-record-listed : (l : List ℕ) (width mark : ℕ) (bytes : List ℕ) → every (map (listed l) (accepted ∷ runRecordNumbers)) ≡ true
+    → listed l (runRecordRefusal width mark bytes) ≡ true
+unfolding runRecordRefusal markRefusal
+run-record-listed l width mark bytes all =
+    let has = every-at (map (listed l) (accepted ∷ runRecordNumbers)) all in
     listed-refuse l _ tooShort _ (has 2) (listed-refuse l _ wrongMark accepted (has 1) (has 0))
 
 opening-listed : (run : List ℕ) → listed (accepted ∷ openingNumbers) (opening run .refusal) ≡ true
@@ -176,7 +191,7 @@ opening-listed run =
     let all : List ℕ = accepted ∷ openingNumbers in
     rw (← opening-number run)
     (listed-first all _ _ (listed-refuse all _ runTooLong accepted refl refl)
-    (listed-first all _ _ (record-listed all configurationWidth configurationMark (configurationOf run) refl)
+    (listed-first all _ _ (run-record-listed all configurationWidth configurationMark (configurationOf run) refl)
     (listed-within (accepted ∷ freshNumbers) all (fresh (limitsIn run) .refusal) refl (fresh-listed (limitsIn run)))))
 
 -- that of a record, on a state that meets the rules
@@ -184,8 +199,8 @@ act-on-listed : (s : State) → rules s ≡ true → (bytes : List ℕ) → list
 unfolding listed every
 act-on-listed s h bytes =
     let all : List ℕ = accepted ∷ runNumbers in
-    rw (← record-number s bytes, act-number s (actionIn bytes))
-    (listed-first all _ _ (record-listed all recordWidth actionMark bytes refl)
+    rw (← run-record-number s bytes, act-number s (actionIn bytes))
+    (listed-first all _ _ (run-record-listed all runRecordWidth actionMark bytes refl)
     (listed-within (accepted ∷ actionNumbers) all (refusal s (actionIn bytes)) refl (met-listed s (actionIn bytes) h)))
 
 -- so no other number refuses a run
@@ -196,7 +211,7 @@ run-listed run =
     elim (ℕ-discrete (opening run .refusal) accepted) [
       | yes ok ↦ elim (ℕ-discrete (judge run .refusal) accepted) [
         | yes e ↦ ap (listed all) e
-        | no e ↦ rw (← refused-record run ok e .answer) (act-on-listed (judge run .state) (last-kept run ok .rules) (nextRecord run))
+        | no e ↦ rw (← refused-run-record run ok e .answer) (act-on-listed (judge run .state) (last-kept run ok .rules) (nextRunRecord run))
       ]
       | no h ↦ rw (judge-unopened run h) (listed-within (accepted ∷ openingNumbers) all (opening run .refusal) refl (opening-listed run))
     ]
@@ -232,7 +247,7 @@ first-within test steps =
 opened-small : (run : List ℕ) → opening run .refusal ≡ accepted → Small (judge run)
 opened-small run ok =
     record {
-      accepted = omega (arith, accepted-few run ok, records-few run ok mostActions .1 (omega (arith, opening-short run ok)));
+      accepted = omega (arith, accepted-few run ok, run-records-few run ok mostActions .1 (omega (arith, opening-short run ok)));
       refusal = run-listed run;
       at = omega (arith, at-within run ok, opening-short run ok);
       weak = rw (opened run ok) (first-within weakHolds (traceOf run .steps));

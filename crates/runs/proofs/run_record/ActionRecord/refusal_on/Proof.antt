@@ -2,8 +2,8 @@ use mathlib.Core.Path.{_∙_}
 use borrow.Author.Needs.{needs}
 use Rattle.logic.specs.Refuse.{first-yes, first-no}
 use Rattle.cluster.specs.Act.{actionRefusal}
-use Rattle.runs.proofs.record.ActionRecord.refusal_on.Statement.{statement}
-use Rattle.runs.proofs.record.ActionRecord.refusal_on.Tie as tie
+use Rattle.runs.proofs.run_record.ActionRecord.refusal_on.Statement.{statement}
+use Rattle.runs.proofs.run_record.ActionRecord.refusal_on.Tie as tie
 
 returns : tie.Need-returns
 returns c =

@@ -1,8 +1,8 @@
 use mathlib.Core.Path.{sym, _∙_}
 use borrow.Author.Needs.{needs}
-use Rattle.runs.specs.RecordLaws.{mark-right, mark-wrong}
-use Rattle.runs.proofs.record.mark_refusal.Statement.{statement}
-use Rattle.runs.proofs.record.mark_refusal.Tie as tie
+use Rattle.runs.specs.RunRecordLaws.{mark-right, mark-wrong}
+use Rattle.runs.proofs.run_record.mark_refusal.Statement.{statement}
+use Rattle.runs.proofs.run_record.mark_refusal.Tie as tie
 
 is-marked-requires : tie.Need-is-marked-requires
 is-marked-requires c κs = search needs
