@@ -27,7 +27,7 @@ static void show(const char *name, const uint8_t *of)
     printf("\n");
 }
 
-/* Whether a whole record with this mark starts at this byte. */
+/* Whether a whole run record with this mark starts at this byte. */
 static int marked(size_t length, size_t at, uint8_t mark)
 {
     return at + RECORD <= length && run[at] == 0x4B && run[at + 1] == mark;

@@ -48,7 +48,7 @@
  *     18  the follower's leader is another, or none
  *     19  the follower's log is not shorter than the leader's
  *     20  another mark than the one expected
- *     21  bytes are missing: of a flat state, an image, a run or a record
+ *     21  bytes are missing: of a flat state, an image, a run or a run record
  *     22  R, L, M or X is out of range
  *     23  bytes are left over behind a flat state or an image
  *     24  `out` is shorter than the answer
@@ -106,8 +106,8 @@ uint8_t replay_rename(const uint8_t *state, size_t state_length, const uint8_t *
 uint8_t replay_representative(const uint8_t *state, size_t state_length, uint8_t *out, size_t out_length);
 
 /* The verdict of a run: 250 bytes, six numbers of 4 bytes, low byte first (actions accepted; refusal, 0 for none; byte where the
- * refused record starts, the run's length where none is refused, 0 where the run is too long; actions accepted when weak ISR, and
- * when strong ISR, first failed, 0 for never; exposed, the greatest high watermark of any replica that presumes to lead, in any
+ * refused run record starts, the run's length where none is refused, 0 where the run is too long; actions accepted when weak ISR,
+ * and when strong ISR, first failed, 0 for never; exposed, the greatest high watermark of any replica that presumes to lead, in any
  * state of the run), then the last state, all zeros where no configuration was accepted. Refused by 24 alone: that a run is
  * refused is an answer. */
 uint8_t replay_judge(const uint8_t *run, size_t run_length, uint8_t *out, size_t out_length);

@@ -17,7 +17,7 @@ pub struct Verdict {
     pub accepted: u32,
     /// The refusal's number, or 0.
     pub refusal: u8,
-    /// The byte where the refused record starts, or the run's length; 0 for 25.
+    /// The byte where the refused run record starts, or the run's length; 0 for 25.
     pub at: u32,
     /// Accepted actions when weak ISR first failed, or 0.
     pub weak: u32,

@@ -25,7 +25,7 @@ pub record Kept (s t : State) : Type 0 where
   pub tidy : tidy t ≡ t
   pub limits : t .limits ≡ s .limits
 
--- a state keeps all of it of itself, and what each of two steps keeps both together keep
+-- a tidy state that meets the rules keeps all of it of itself, and what each of two steps keeps both together keep
 pub kept-same : (s : State) → rules s ≡ true → tidy s ≡ s → Kept s s
 kept-same s h t = record { rules = h; tidy = t; limits = refl }
 
@@ -49,7 +49,7 @@ act-kept s action ok =
     let k = effect-kept (tidy s) action (rules-tidy s ∙ a .met) (tidy-twice s) (a .unrefused) in
     rw (a .next) (record { rules = k .rules; tidy = k .tidy; limits = k .limits ∙ tidy-same s .limits })
 
--- so every state that steps reach meets the rules and is tidy, whatever each step answers
+-- so a step from a tidy state that meets the rules leads to one, whatever it answers
 pub step-kept : (s : State) (action : Action) → rules s ≡ true → tidy s ≡ s → Kept s (step s action .state)
 unfolding step answerBy byRefusal
 step-kept s action h t = go (actionRefusal s action) refl

@@ -32,7 +32,7 @@ use Rattle.cluster.specs.declared.Limits.{Limits}
 use Rattle.cluster.specs.declared.State.{State}
 use Rattle.cluster.specs.State.{replicaCount, nextLeaderEpoch, nextRecordId, requestAt, replicaAt, withReplica, controllerUpdateIsr}
 use Rattle.cluster.specs.Predicates.{Rules}
-use Rattle.cluster.specs.Actions.{controllerShrinkIsrRefusal, shrinkBy, controllerShrinkIsr, controllerElectLeaderRefusal, controllerElectLeader, leaderRefusal, becomeLeaderRefusal, leadBy, becomeLeader, becomeFollowerRefusal, becomeFollower, becomeFollowerAndTruncateToHw, leaderWriteRefusal, nextRecord, leaderWrite, quorumUpdateLeaderAndIsr, leaderShrinkIsrRefusal, leaderShrinkIsr, leaderExpandIsrRefusal, leaderExpandIsr, leaderIncHighWatermarkRefusal, leaderIncHighWatermark, followerReplicateRefusal, followerReplicate}
+use Rattle.cluster.specs.Actions.{controllerShrinkIsrRefusal, shrinkBy, controllerShrinkIsr, controllerElectLeaderRefusal, controllerElectLeader, leaderRefusal, becomeLeaderRefusal, leadBy, becomeLeader, becomeFollowerRefusal, becomeFollowerAt, becomeFollowerAndTruncateToHw, leaderWriteRefusal, nextRecord, leaderWrite, quorumUpdateLeaderAndIsr, leaderShrinkIsrRefusal, leaderShrinkIsr, leaderExpandIsrRefusal, leaderExpandIsr, leaderIncHighWatermarkRefusal, leaderIncHighWatermark, followerReplicateRefusal, followerReplicate}
 use Rattle.cluster.specs.declared.Kind.{Kind}
 use Rattle.cluster.specs.declared.Kind.the-variants.{ControllerShrinkIsr, ControllerElectLeader, BecomeLeader, BecomeFollower, LeaderWrite, LeaderShrinkIsr, LeaderExpandIsr, LeaderIncHighWatermark, FollowerReplicate, Unknown}
 use Rattle.cluster.specs.Act.{uses, tableRefusal, tableEffect}
@@ -102,8 +102,8 @@ module _ (c : Limits) (s : State) (d : Sound c s) where
       lead-by-sound e (f .0) (requestAt s e .leader) refl (f .1)
 
   -- with any truncation offset
-  pub become-follower-at-sound : (a e offset : ℕ) → a < R → e < nextLeaderEpoch s → Sound c (becomeFollower s a e offset)
-  unfolding becomeFollower
+  pub become-follower-at-sound : (a e offset : ℕ) → a < R → e < nextLeaderEpoch s → Sound c (becomeFollowerAt s a e offset)
+  unfolding becomeFollowerAt
   become-follower-at-sound a e offset l sent =
       put-only-sound c s d a l _
       (follower-fits s r a (nextRecordId s) (replicaAt s a) (pos e) (requestAt s e .leader) (requestAt s e .isr) offset

@@ -8,15 +8,15 @@
 --   TrueLeader s a, true-leader             a presumes, the quorum names it, and its epoch is the quorum's; the test says so
 --   EpochLeft s                             the next epoch is below X+1
 --   request-sent                            a request that is not missing has an epoch below the next one
---   controller-shrink-accepted              kind 0 is accepted exactly where a is in the quorum's ISR and an epoch is left
---   elect-accepted                          kind 1: a is in the quorum's ISR and does not lead, and an epoch is left
+--   controller-shrink-accepted              kind 0, where S1 holds: accepted exactly where a is in the quorum's ISR and an epoch is left
+--   elect-accepted                          kind 1, where S1 holds: a is in the quorum's ISR and does not lead, and an epoch is left
 --   become-leader-accepted                  kind 2: request e was sent, and leaderRefusal is 0 of the leader that it names
 --   become-follower-accepted                kind 3: request e was sent, does not name a, and e is above a's epoch
 --   Writes s a, write-accepted              kind 4: a presumes, an id is left, and a's log has room
 --   Shrinks s a b, leader-shrink-accepted   kind 5: a is the true leader, b another, in a's ISR and not caught up to a's end
 --   Expands s a b, leader-expand-accepted   kind 6: a is the true leader, b not in a's ISR and caught up to a's hw
 --   advance-accepted                        kind 7: a presumes, and each member of a's ISR has a as leader and has offset hw
---   own-hw                                  where kind 7 is accepted, a has offset hw itself
+--   own-hw                                  where S5 holds of a and kind 7 is accepted, a has offset hw itself
 --   Replicates s a b, replicate-accepted    kind 8: b presumes, a's leader is b, and a's end is below b's
 use Prim.Native.Nat.{ℕ, _+_, _<_}
 use mathlib.Core.Path.{_≡_, refl, sym, ap}

@@ -12,7 +12,7 @@
 --   controllerElectLeader s a             kind 1, elect: the effect, as in all that follow
 --   leaderRefusal, leadBy                 refusal and effect of kind 2 by the leader that the request names
 --   becomeLeader s e                      kind 2, become leader
---   becomeFollower s a e offset           a takes request e; where that names a leader, a's log is cut to the offset
+--   becomeFollowerAt s a e offset         a takes request e; where that names a leader, a's log is cut to the offset
 --   becomeFollowerAndTruncateToHw s a e   kind 3, become follower: the offset is a's hw. The refusal is becomeFollowerRefusal
 --   nextRecord s a, leaderWrite s a       the record that a writes; kind 4, write
 --   quorumUpdateLeaderAndIsr s l isr      the ISR put into the leader l and into the quorum, as kinds 5 and 6 do
@@ -137,14 +137,14 @@ becomeFollowerRefusal s a e =
 
 -- a takes e, leader and ISR of request e; where a leader is named its log is cut to the truncation offset; its hw becomes
 -- the smaller of itself and that offset
-unfoldable pub becomeFollower : State → ℕ → ℕ → ℕ → State
-becomeFollower s a e truncationOffset =
+unfoldable pub becomeFollowerAt : State → ℕ → ℕ → ℕ → State
+becomeFollowerAt s a e truncationOffset =
     withReplica s a
     (becomeFollowerAndTruncateTo (replicaAt s a) (pos e) (requestAt s e .leader) (requestAt s e .isr) truncationOffset)
 
 -- "leader named: log cut to a's hw. No leader: log kept. a takes e, leader, ISR; hw stays"
 unfoldable pub becomeFollowerAndTruncateToHw : State → ℕ → ℕ → State
-becomeFollowerAndTruncateToHw s a e = becomeFollower s a e (replicaAt s a .hw)
+becomeFollowerAndTruncateToHw s a e = becomeFollowerAt s a e (replicaAt s a .hw)
 
 -- ---- kind 4, LeaderWrite
 -- "a doesn't presume 10; no id left 11; log full 12"

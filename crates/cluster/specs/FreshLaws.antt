@@ -25,7 +25,7 @@ use Rattle.parts.specs.Refusal.{accepted, badConfiguration}
 use Rattle.parts.specs.Isr.{fullIsr}
 use Rattle.parts.specs.IsrLaws.{none-below, full-below}
 use Rattle.parts.specs.Epoch.{sameEpoch, lastEpoch}
-use Rattle.parts.specs.Leader.{names, sameLeader, leaderBelow, leaderInIsr}
+use Rattle.parts.specs.Leader.{names, sameLeader, leaderBelow, leaderNoneOrInIsr}
 use Rattle.replica.specs.declared.Replica.{Replica}
 use Rattle.replica.specs.Replica.{zeroReplica, noReplica, tidyReplica}
 use Rattle.replica.specs.Log.{logInUse, logsAgree}
@@ -89,7 +89,7 @@ module _ (c : Limits) (ok : inRange c ≡ true) where
   fresh3 = eq-eqb (fullIsr (replicaCount c)) (fullIsr (replicaCount c)) refl
 
   fresh4 : rule4 0 (freshQuorum c) (freshState c .requests) ≡ true
-  unfolding rule4 leaderInIsr allBelow
+  unfolding rule4 leaderNoneOrInIsr allBelow
   fresh4 = refl
 
   fresh-replica-meets-s5 : (i : ℕ) → replicaMeetsS5 0 (freshState c .requests) freshReplica i ≡ true

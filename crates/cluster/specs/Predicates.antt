@@ -2,7 +2,7 @@
 --
 --   S1 s .. S7 s                                    the state meets that rule
 --   Named n leader isr                              the leader is none or below n, and the ISR within n replicas
---   MatchesRequest next requests epoch leader isr   S5 of the epoch, the leader and the ISR of a replica
+--   MatchesRequest next requests epoch leader isr   the first two sentences of S5, as a predicate
 --   MeetsS5 next requests p i                       S5 of the replica p named i
 --   Has s i x                                       i is a replica, and its log has offset x
 --   Rules s                                         the state meets S1 to S7
@@ -23,8 +23,8 @@ use Rattle.parts.specs.declared.Leader.the-variants.{None, Some}
 use Rattle.parts.specs.Isr.{member, fullIsr, isrBelow}
 use Rattle.parts.specs.Epoch.{noEpoch, sameEpoch, lastEpoch}
 use Rattle.parts.specs.EpochLaws.{pos-injective, negsuc-injective, pos-negsuc, same-epoch-true, same-epoch-by}
-use Rattle.parts.specs.Leader.{names, sameLeader, leaderBelow, leaderInIsr}
-use Rattle.parts.specs.LeaderLaws.{names-iff, same-leader-iff, leader-below-iff, leader-in-isr-iff, isr-below-iff}
+use Rattle.parts.specs.Leader.{names, sameLeader, leaderBelow, leaderNoneOrInIsr}
+use Rattle.parts.specs.LeaderLaws.{names-iff, same-leader-iff, leader-below-iff, leader-none-or-in-isr-iff, isr-below-iff}
 use Rattle.replica.specs.declared.Replica.{Replica}
 use Rattle.replica.specs.Replica.{recordAt}
 use Rattle.replica.specs.LogLaws.{InUse, Agree, log-in-use-iff, logs-agree-iff}
@@ -72,7 +72,7 @@ pub record MatchesRequest (nextEpoch : ℕ) (requests : List Request) (epoch : �
   pub used : (e : ℕ) → epoch ≡ pos e → (e < nextEpoch) × (leader ≡ requestIn requests e .leader)
   pub low : (k : ℕ) → epoch ≡ negsuc k → k ≡ 0
 
--- "A replica that is its own leader is in its own ISR. hw is at most its end."
+-- S5 of one replica: that, and "A replica that is its own leader is in its own ISR. hw is at most its end."
 pub record MeetsS5 (nextEpoch : ℕ) (requests : List Request) (p : Replica) (i : ℕ) : Type 0 where
   pub request : MatchesRequest nextEpoch requests (p .epoch) (p .leader) (p .isr)
   pub own : p .leader ≡ Some i → member (p .isr) i ≡ true
@@ -232,16 +232,16 @@ pub rule4-iff : (s : State) → rule4 (nextLeaderEpoch s) (s .quorum) (s .reques
 unfolding rule4
 rule4-iff s = (
   (λ h. record {
-    quorum = leader-in-isr-iff (s .quorum .isr) (s .quorum .leader) .0 (and-left own each h);
-    requests = λ e l. leader-in-isr-iff (requestAt s e .isr) (requestAt s e .leader) .0 (all-at (nextLeaderEpoch s) (requestLeaderInIsr (s .requests)) (and-right own each h) e l);
+    quorum = leader-none-or-in-isr-iff (s .quorum .isr) (s .quorum .leader) .0 (and-left own each h);
+    requests = λ e l. leader-none-or-in-isr-iff (requestAt s e .isr) (requestAt s e .leader) .0 (all-at (nextLeaderEpoch s) (requestLeaderInIsr (s .requests)) (and-right own each h) e l);
   }),
   (λ m.
-      and-both (leader-in-isr-iff (s .quorum .isr) (s .quorum .leader) .1 (m .quorum))
-      (all-by (nextLeaderEpoch s) (requestLeaderInIsr (s .requests)) (λ e l. leader-in-isr-iff (requestAt s e .isr) (requestAt s e .leader) .1 (m .requests e l)))),
+      and-both (leader-none-or-in-isr-iff (s .quorum .isr) (s .quorum .leader) .1 (m .quorum))
+      (all-by (nextLeaderEpoch s) (requestLeaderInIsr (s .requests)) (λ e l. leader-none-or-in-isr-iff (requestAt s e .isr) (requestAt s e .leader) .1 (m .requests e l)))),
 )
   where
     own : Bool
-    own = leaderInIsr (s .quorum .isr) (s .quorum .leader)
+    own = leaderNoneOrInIsr (s .quorum .isr) (s .quorum .leader)
 
     each : Bool
     each = allBelow (nextLeaderEpoch s) (requestLeaderInIsr (s .requests))

@@ -6,7 +6,7 @@
 --   leaderAndIsrInRange n leader isr     the leader is none or below n, and the ISR within n replicas
 --   replicaInRange c p                   S2 of one replica
 --   quorumMatchesRequest                 the quorum has the leader, and at the start the ISR, that S3 asks of it
---   replicaMatchesRequest                a replica has an epoch, a leader and an ISR that S5 asks of it
+--   replicaMatchesRequest                the first two sentences of S5: the epoch of a replica, and its leader and ISR by it
 --   replicaMeetsS5 next requests p i     S5 of the replica p named i
 --   agreesWithAll n replicas p           S7 of the log of p and every log
 --   rule1 .. rule7                       S1 to S7, each over the fields that it reads
@@ -28,7 +28,7 @@ use Rattle.parts.specs.declared.Leader.the-variants.{None}
 use Rattle.parts.specs.Refusal.{accepted, brokenState}
 use Rattle.parts.specs.Isr.{member, fullIsr, isrBelow}
 use Rattle.parts.specs.Epoch.{sameEpoch, lastEpoch}
-use Rattle.parts.specs.Leader.{names, sameLeader, leaderBelow, leaderInIsr}
+use Rattle.parts.specs.Leader.{names, sameLeader, leaderBelow, leaderNoneOrInIsr}
 use Rattle.replica.specs.declared.Replica.{Replica}
 use Rattle.replica.specs.Log.{logInUse, logsAgree}
 use Rattle.cluster.specs.declared.Limits.{Limits}
@@ -98,11 +98,11 @@ rule3 n nextEpoch quorum requests =
 -- ---- S4: "in the quorum and in each request, the leader is none or in the ISR there."
 -- of the request of epoch e
 abbrev pub requestLeaderInIsr : List Request → ℕ → Bool
-requestLeaderInIsr requests e = leaderInIsr (requestIn requests e .isr) (requestIn requests e .leader)
+requestLeaderInIsr requests e = leaderNoneOrInIsr (requestIn requests e .isr) (requestIn requests e .leader)
 
 unfoldable pub rule4 : ℕ → Quorum → List Request → Bool
 rule4 nextEpoch quorum requests =
-    leaderInIsr (quorum .isr) (quorum .leader) && allBelow nextEpoch (requestLeaderInIsr requests)
+    leaderNoneOrInIsr (quorum .isr) (quorum .leader) && allBelow nextEpoch (requestLeaderInIsr requests)
 
 -- ---- S5: "a replica's epoch is from -1 to next epoch minus 1. At -1 it has no leader and an empty ISR; otherwise its
 -- leader is that of its epoch's request. A replica that is its own leader is in its own ISR. hw is at most its end."

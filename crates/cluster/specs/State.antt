@@ -14,7 +14,7 @@
 --   withReplica s i p                     the state with p as replica i
 --   withQuorumIsr s isr                   the state with another ISR of the quorum
 --   withNextRecordId s n                  the state with another next record id
---   controllerUpdateIsr s leader isr      the state with a new quorum at the next epoch, and its request
+--   controllerUpdateIsr s leader isr      the state with a new quorum at the next epoch, its request, and the next epoch raised by 1
 --   Same s t                              the two states are equal: unused room does not count
 --   tidyRequestAt s e, tidyReplicaAt s i  a request and a replica of the tidy state
 --   tidy s                                the state with zeros in its unused room

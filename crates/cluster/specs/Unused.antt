@@ -18,7 +18,7 @@ use borrow.Author.Tests.{le-ltb}
 use Rattle.logic.specs.Tests.{allBelow, all-cong, every-cong, firstFailing, failing-cong, bool-ext}
 use Rattle.parts.specs.declared.Leader.{Leader}
 use Rattle.parts.specs.Isr.{member}
-use Rattle.parts.specs.Leader.{names, sameLeader, leaderInIsr}
+use Rattle.parts.specs.Leader.{names, sameLeader, leaderNoneOrInIsr}
 use Rattle.replica.specs.declared.Record.{Record}
 use Rattle.replica.specs.declared.Replica.{Replica}
 use Rattle.replica.specs.Replica.{recordAt, SameReplica}
@@ -88,8 +88,8 @@ module _ (c : Limits) (next : ℕ) (quorum : Quorum) (rs us : List Request) (ps 
   rule4-same : rule4 next quorum rs ≡ rule4 next quorum us
   unfolding rule4
   rule4-same =
-      ap (λ b. leaderInIsr (quorum .isr) (quorum .leader) && b)
-      (all-cong next (requestLeaderInIsr rs) (requestLeaderInIsr us) (λ e l. ap (λ (q : Request). leaderInIsr (q .isr) (q .leader)) (requests e l)))
+      ap (λ b. leaderNoneOrInIsr (quorum .isr) (quorum .leader) && b)
+      (all-cong next (requestLeaderInIsr rs) (requestLeaderInIsr us) (λ e l. ap (λ (q : Request). leaderNoneOrInIsr (q .isr) (q .leader)) (requests e l)))
 
   matches-same : (z : ℤ) (l : Leader) (isr : ℕ) → replicaMatchesRequest next rs z l isr ≡ replicaMatchesRequest next us z l isr
   unfolding replicaMatchesRequest

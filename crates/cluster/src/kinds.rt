@@ -61,7 +61,7 @@ impl Kind {
 }
 
 impl Uses {
-    // The operands used, from whether each of a, b and e is.
+    // Which operands are used: a, b, e.
     fn of(a: bool, b: bool, e: bool) -> Uses
         ensures { λ r. ⌜ r ≡ useOf a b e ⌝ }
     {

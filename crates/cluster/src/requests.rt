@@ -8,7 +8,7 @@ ghost use Rattle.parts.specs.Refusal.{accepted};
 ghost use Rattle.parts.specs.Leader.{leaderBelow};
 ghost use Rattle.cluster.specs.State.{replicaCount};
 ghost use Rattle.cluster.specs.Rules.{rules};
-ghost use Rattle.cluster.specs.Actions.{leaderRefusal, becomeLeaderRefusal, leadBy, becomeLeader, becomeFollowerRefusal, becomeFollower, becomeFollowerAndTruncateToHw};
+ghost use Rattle.cluster.specs.Actions.{leaderRefusal, becomeLeaderRefusal, leadBy, becomeLeader, becomeFollowerRefusal, becomeFollowerAt, becomeFollowerAndTruncateToHw};
 use crate::State;
 use parts::Leader;
 use parts::refusal::ACCEPTED;
@@ -47,7 +47,8 @@ impl State {
         self.leader_refusal(e, l)
     }
 
-    // The state in which the leader that request e names has taken the epoch e, itself as leader, and that request's ISR.
+    // The state in which this leader has taken epoch e, itself as leader, and the ISR of request e; the state itself where it is none.
+    // Called with the leader that request e names.
     fn lead_by(self, e: u8, leader: Leader) -> State
         requires { ⌜ e < 16 ⌝ }
         requires { ⌜ leaderBelow 5 leader ≡ true ⌝ }
@@ -100,10 +101,10 @@ impl State {
 
     // The state in which a has taken request e; where that names a leader, a's log is cut to the offset, and a's high
     // watermark is the smaller of itself and the offset.
-    fn become_follower(self, a: u8, e: u8, truncation_offset: u8) -> State
+    fn become_follower_at(self, a: u8, e: u8, truncation_offset: u8) -> State
         requires { ⌜ a < 5 ⌝ }
         requires { ⌜ e < 16 ⌝ }
-        ensures { λ r. ⌜ r ≡ becomeFollower self a e «truncation_offset» ⌝ }
+        ensures { λ r. ⌜ r ≡ becomeFollowerAt self a e «truncation_offset» ⌝ }
     {
         let mut t = self;
         let q = t.requests[e as usize];
@@ -123,6 +124,6 @@ impl State {
         ensures { λ r. ⌜ r ≡ becomeFollowerAndTruncateToHw self a e ⌝ }
     {
         let p = self.replica_at(a);
-        self.become_follower(a, e, p.hw)
+        self.become_follower_at(a, e, p.hw)
     }
 }

@@ -202,7 +202,7 @@ fn request_leaders_in_isr(requests: [Request; 16], next: u8) -> bool
     while e < n {
         let q = requests[e];
         let l = q.leader;
-        if l.in_isr(q.isr) {
+        if l.none_or_in_isr(q.isr) {
             e = e + 1;
         } else {
             return false;
@@ -218,15 +218,15 @@ pub(crate) fn rule_4(s: State) -> bool
 {
     let q = s.quorum;
     let l = q.leader;
-    if l.in_isr(q.isr) {
+    if l.none_or_in_isr(q.isr) {
         let requests = s.requests;
         return request_leaders_in_isr(requests, s.next_leader_epoch);
     }
     false
 }
 
-// Whether a replica has an epoch, a leader and an ISR that S5 asks of it: at -1 no leader and an empty ISR, otherwise an epoch
-// that is used and the leader of its request.
+// The first two sentences of S5, of one replica: at -1 it has no leader and an empty ISR, otherwise an epoch that is used and the
+// leader of its request.
 fn replica_matches_request(
     requests: [Request; 16],
     next: u8,

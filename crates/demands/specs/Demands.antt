@@ -133,8 +133,8 @@ pub record Demand1 : Type 0 where
   pub writing-leaves : (s : State) (buffer : List ℕ) → (writeImage s buffer .refusal ≡ accepted → ⊥) → bufferAfter s buffer ≡ buffer
   -- and of the C interface: whatever a function has to say, where the number refuses, `out` stays as it was
   pub interface-leaves : (reply : Reply) (out : List ℕ) → (number reply out ≡ accepted → ⊥) → outAfter reply out ≡ out
-  -- of a run of any bytes: its numbers; "the one a run had reached", which is the state behind its accepted records; and zeros where no
-  -- configuration is accepted
+  -- of a run of any bytes: its numbers; "the one a run had reached", which is the state behind its accepted run records; and zeros
+  -- where no configuration is accepted
   pub run-answers : (run : List ℕ) → listed (accepted ∷ runNumbers) (judge run .refusal) ≡ true
   pub run-reached : (run : List ℕ) → opening run .refusal ≡ accepted → judge run .state ≡ stateAt run (judge run .tally .accepted)
   pub run-zeros : (run : List ℕ) → (opening run .refusal ≡ accepted → ⊥) → judge run ≡ unopened (opening run .refusal)
@@ -215,11 +215,12 @@ pub record Demand2 : Type 1 where
       accepted)))
   pub starts : (run : List ℕ) → opening run .refusal ≡ accepted → stateAt run 0 ≡ freshState (limitsOf run)
   pub starts-by-init : (run : List ℕ) → opening run .refusal ≡ accepted → Init (constantsIn run) (meaning (stateAt run 0))
-  -- each accepted record has six bytes of the run and the action mark, and its own action joins the state before it and the next one
+  -- each accepted run record has six bytes of the run and the action mark, and its own action joins the state before it and the
+  -- next one
   pub run-records-join : (run : List ℕ) → opening run .refusal ≡ accepted → (k : ℕ) → k < judge run .tally .accepted → Joins run k
-  -- it goes on to its end, which is accepted exactly where six bytes for each accepted record, and the configuration's, fill the run; or
-  -- to the first record that is refused, at its byte: by 21, then 20, then the number of its action on the state before it. The action of
-  -- a refused record that has six bytes and the mark is one that the model does not allow
+  -- it goes on to its end, which is accepted exactly where six bytes for each accepted run record, and the configuration's, fill
+  -- the run; or to the first run record that is refused, at its byte: by 21, then 20, then the number of its action on the state
+  -- before it. The action of a refused run record that has six bytes and the mark is one that the model does not allow
   pub ends : (run : List ℕ) → opening run .refusal ≡ accepted
       → judge run .refusal ≡ accepted ↔ length run ≡ configurationWidth + runRecordWidth * judge run .tally .accepted
   pub ends-at : (run : List ℕ) → judge run .refusal ≡ accepted → judge run .at ≡ length run

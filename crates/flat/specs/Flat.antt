@@ -27,8 +27,8 @@ use Rattle.cluster.specs.State.{limitsAt, replicaCount, logSize, maxRecords, ma
 abbrev pub flatWidth : ℕ
 flatWidth = 226
 
-abbrev pub headerWidth : ℕ
-headerWidth = 9
+abbrev pub flatHeaderWidth : ℕ
+flatHeaderWidth = 9
 
 abbrev pub requestWidth : ℕ
 requestWidth = 2
@@ -37,27 +37,27 @@ abbrev pub replicaWidth : ℕ
 replicaWidth = 37
 
 -- where the replicas start: behind the first part and 16 requests
-abbrev pub replicasAt : ℕ
-replicasAt = 41
+abbrev pub flatReplicasPlace : ℕ
+flatReplicasPlace = 41
 
 -- where in the first part these stand
-abbrev pub limitsPlace : ℕ
-limitsPlace = 0
+abbrev pub flatLimitsPlace : ℕ
+flatLimitsPlace = 0
 
-abbrev pub nextEpochPlace : ℕ
-nextEpochPlace = 4
+abbrev pub flatNextEpochPlace : ℕ
+flatNextEpochPlace = 4
 
-abbrev pub nextIdPlace : ℕ
-nextIdPlace = 5
+abbrev pub flatNextIdPlace : ℕ
+flatNextIdPlace = 5
 
-abbrev pub quorumEpochPlace : ℕ
-quorumEpochPlace = 6
+abbrev pub flatQuorumEpochPlace : ℕ
+flatQuorumEpochPlace = 6
 
-abbrev pub quorumLeaderPlace : ℕ
-quorumLeaderPlace = 7
+abbrev pub flatQuorumLeaderPlace : ℕ
+flatQuorumLeaderPlace = 7
 
-abbrev pub quorumIsrPlace : ℕ
-quorumIsrPlace = 8
+abbrev pub flatQuorumIsrPlace : ℕ
+flatQuorumIsrPlace = 8
 
 -- ---- leaders
 -- the byte of a leader: 0 for none, and i + 1 for replica i. Replica 255 has no byte, and no state that is read or answered names
@@ -121,18 +121,18 @@ replicaOfFlat bs =
 abbrev pub quorumOfFlat : List ℕ → Quorum
 quorumOfFlat bs =
     record {
-      epoch = epochOfByte (byteAt bs quorumEpochPlace);
-      leader = leaderOfFlat (byteAt bs quorumLeaderPlace);
-      isr = byteAt bs quorumIsrPlace;
+      epoch = epochOfByte (byteAt bs flatQuorumEpochPlace);
+      leader = leaderOfFlat (byteAt bs flatQuorumLeaderPlace);
+      isr = byteAt bs flatQuorumIsrPlace;
     }
 
 -- the request of epoch e, and the replica named i
 abbrev pub requestOfFlatAt : List ℕ → ℕ → Request
-requestOfFlatAt bs e = requestOfFlat (drop (headerWidth + requestWidth * e) bs)
+requestOfFlatAt bs e = requestOfFlat (drop (flatHeaderWidth + requestWidth * e) bs)
 
 abbrev pub replicaOfFlatAt : List ℕ → ℕ → Replica
-replicaOfFlatAt bs i = replicaOfFlat (drop (replicasAt + replicaWidth * i) bs)
+replicaOfFlatAt bs i = replicaOfFlat (drop (flatReplicasPlace + replicaWidth * i) bs)
 
 unfoldable pub stateOfFlat : List ℕ → State
 stateOfFlat bs =
-    stateOf (limitsAt limitsPlace bs) (byteAt bs nextEpochPlace) (byteAt bs nextIdPlace) (quorumOfFlat bs) (table 16 (requestOfFlatAt bs)) (table 5 (replicaOfFlatAt bs))
+    stateOf (limitsAt flatLimitsPlace bs) (byteAt bs flatNextEpochPlace) (byteAt bs flatNextIdPlace) (quorumOfFlat bs) (table 16 (requestOfFlatAt bs)) (table 5 (replicaOfFlatAt bs))

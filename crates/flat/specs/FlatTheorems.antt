@@ -1,5 +1,5 @@
--- Every 226 bytes are read as some state, whose flat form is these bytes again. And the other way: a state comes back from its flat
--- form, unused room too. Assumes nothing.
+-- Every 226 bytes are read as some state, whose flat form is these bytes again. And the other way: a state
+-- whose epochs and leaders have bytes (Flattens) comes back from its flat form, unused room too. Assumes nothing.
 --
 --   parts-joined, parts-again  parts of w bytes, read at their places and written again, are the bytes that they were read from
 --   bytes-back                 226 bytes, read as a state and written again, are the same bytes
@@ -40,7 +40,7 @@ use Rattle.cluster.specs.Rules.{rules}
 use Rattle.cluster.specs.RuleLaws.{rules-bounded}
 use Rattle.cluster.specs.Predicates.{rules-iff}
 use Rattle.cluster.specs.StateBytes.{named-small, replica-small}
-use Rattle.flat.specs.Flat.{flatWidth, headerWidth, requestWidth, replicaWidth, replicasAt, flatLeader, leaderOfFlat, flatRequest, flatRequestAt, flatReplica, flatReplicaAt, flatHeader, flat, requestOfFlat, recordOfFlat, replicaOfFlat, quorumOfFlat, requestOfFlatAt, replicaOfFlatAt, stateOfFlat}
+use Rattle.flat.specs.Flat.{flatWidth, flatHeaderWidth, requestWidth, replicaWidth, flatReplicasPlace, flatLeader, leaderOfFlat, flatRequest, flatRequestAt, flatReplica, flatReplicaAt, flatHeader, flat, requestOfFlat, recordOfFlat, replicaOfFlat, quorumOfFlat, requestOfFlatAt, replicaOfFlatAt, stateOfFlat}
 use Rattle.flat.specs.FlatLaws.{replica-width, requests-width}
 
 -- ---- bytes, read and written again
@@ -101,8 +101,8 @@ bytes-back bs b h =
     ∙ front-bytes 9 bs (omega arith) in
     let rest : concatBelow 16 (flatRequestAt (stateOfFlat bs)) ++ concatBelow 5 (flatReplicaAt (stateOfFlat bs)) ≡ take 217 (drop 9 bs) =
     ap₂ (λ (a c : List ℕ). a ++ c)
-    (parts-again requestWidth 16 headerWidth requestOfFlat flatRequest zeroRequest request-bytes bs b (omega arith))
-    (parts-again replicaWidth 5 replicasAt replicaOfFlat flatReplica noReplica replica-bytes bs b (omega arith) ∙ ap (take 185) (sym (drop-drop 32 9 bs)))
+    (parts-again requestWidth 16 flatHeaderWidth requestOfFlat flatRequest zeroRequest request-bytes bs b (omega arith))
+    (parts-again replicaWidth 5 flatReplicasPlace replicaOfFlat flatReplica noReplica replica-bytes bs b (omega arith) ∙ ap (take 185) (sym (drop-drop 32 9 bs)))
     ∙ sym (take-add 32 185 (drop 9 bs)) in
     ap₂ (λ (a c : List ℕ). a ++ c) header rest ∙ sym (take-add 9 217 bs) ∙ take-all 226 bs (omega arith)
 
@@ -176,19 +176,19 @@ replica-back p more n e l r =
 requests-back : (s : State) → Flattens s → table 16 (requestOfFlatAt (flat s)) ≡ s .requests
 unfolding flat
 requests-back s f =
-    parts-found requestWidth 16 headerWidth requestOfFlat flatRequest zeroRequest (s .requests) (flat s) (concatBelow 5 (flatReplicaAt s))
+    parts-found requestWidth 16 flatHeaderWidth requestOfFlat flatRequest zeroRequest (s .requests) (flat s) (concatBelow 5 (flatReplicaAt s))
     (f .requestsLength) refl (λ e l. refl) (λ e l more. request-back (requestAt s e) more (f .requestLeader e l))
 
 replicas-back : (s : State) → Flattens s → table 5 (replicaOfFlatAt (flat s)) ≡ s .replicas
 unfolding flat
 replicas-back s f =
-    parts-found replicaWidth 5 replicasAt replicaOfFlat flatReplica noReplica (s .replicas) (flat s) [] (f .replicasLength) behind
+    parts-found replicaWidth 5 flatReplicasPlace replicaOfFlat flatReplica noReplica (s .replicas) (flat s) [] (f .replicasLength) behind
     (λ i l. replica-width (replicaAt s i))
     (λ i l more. replica-back (replicaAt s i) more (f .logLength i l) (f .epoch i l) (f .leader i l) (λ x k. f .recordEpoch i x l k))
   where
-    behind : drop replicasAt (flat s) ≡ concatBelow 5 (flatReplicaAt s) ++ []
+    behind : drop flatReplicasPlace (flat s) ≡ concatBelow 5 (flatReplicaAt s) ++ []
     behind =
-        sym (drop-drop 32 headerWidth (flat s))
+        sym (drop-drop 32 flatHeaderWidth (flat s))
         ∙ drop-at (concatBelow 16 (flatRequestAt s)) (concatBelow 5 (flatReplicaAt s)) 32 (requests-width s)
         ∙ sym (append-nil (concatBelow 5 (flatReplicaAt s)))
 

@@ -10,7 +10,7 @@ use Rattle.logic.specs.Concat.{concatBelow}
 use Rattle.parts.specs.declared.Leader.the-variants.{Some}
 use Rattle.parts.specs.Isr.{member, isrBelow, fullIsr}
 use Rattle.parts.specs.Epoch.{sameEpoch, lastEpoch, epochUsed}
-use Rattle.parts.specs.Leader.{names, sameLeader, leaderBelow, leaderInIsr}
+use Rattle.parts.specs.Leader.{names, sameLeader, leaderBelow, leaderNoneOrInIsr}
 use Rattle.replica.specs.declared.Record.{Record}
 use Rattle.replica.specs.declared.Replica.{Replica}
 use Rattle.replica.specs.Replica.{replicaOf}
@@ -40,7 +40,7 @@ fullState =
     stateOf fullLimits 16 16 (record { epoch = pos 15; leader = Some 0; isr = 31 }) (replicate 16 fullRequest) (replicate 5 fullReplica)
 
 pub full-meets-rules : rules fullState ≡ true
-unfolding fullRecord fullReplica fullRequest fullLimits fullState table tableFrom allBelow every member isrBelow fullIsr sameEpoch lastEpoch epochUsed names sameLeader leaderBelow leaderInIsr recordInUse logInUse recordsAgree recordAgrees logsAgree between inRange rule1 leaderAndIsrInRange replicaInRange rule2 quorumMatchesRequest rule3 rule4 replicaMatchesRequest replicaMeetsS5 rule5 rule6 agreesWithAll rule7 rules
+unfolding fullRecord fullReplica fullRequest fullLimits fullState table tableFrom allBelow every member isrBelow fullIsr sameEpoch lastEpoch epochUsed names sameLeader leaderBelow leaderNoneOrInIsr recordInUse logInUse recordsAgree recordAgrees logsAgree between inRange rule1 leaderAndIsrInRange replicaInRange rule2 quorumMatchesRequest rule3 rule4 replicaMatchesRequest replicaMeetsS5 rule5 rule6 agreesWithAll rule7 rules
 full-meets-rules = refl
 
 pub full-length : length (image fullState) ≡ 227

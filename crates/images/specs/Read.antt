@@ -68,7 +68,7 @@ requestOf bs = record { leader = leaderOfByte (byteAt bs 0); isr = byteAt bs 1 }
 abbrev pub readRequest : List ℕ → Parsed Request
 readRequest bs = part requestWidth requestOf bs
 
--- "per replica hw, epoch, leader, ISR, end", with an empty log as yet
+-- "per replica hw, epoch, leader, ISR, end", with zeros in its log as yet
 abbrev pub replicaOfHead : List ℕ → Replica
 replicaOfHead bs =
     replicaOf (byteAt bs 0) (epochOfByte (byteAt bs 1)) (leaderOfByte (byteAt bs 2)) (byteAt bs 3) (byteAt bs 4) (replicate 16 zeroRecord)

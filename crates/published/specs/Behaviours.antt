@@ -1,5 +1,5 @@
 -- The finite behaviours of the published model are the sequences of accepted actions from a fresh state, and each of their
--- states meets S1 to S7, and so TypeOk. Assumes nothing.
+-- states is the meaning of one that meets S1 to S7, so TypeOk holds of it. Assumes nothing.
 --
 --   AllAccepted s actions     the actions are accepted one after another, from s
 --   statesAfter s actions     the states that they hand back
@@ -142,7 +142,7 @@ module _ (c : Limits) (ok : fresh c .refusal ≡ accepted) where
       let r = steps-are-actions c (fresh c .state) (fresh-answer-rules c ok) fresh-limits u m us (h .1) in
       (r .0, r .1, (m, r .2))
 
-  -- so each of its states meets the rules
+  -- so each of its states is the meaning of one that meets the rules
   pub behaviour-meets-rules : (us : List ModelState) → FiniteBehaviour (constantsOf c) us → Each (MeetsRules c) us
   behaviour-meets-rules [] h = absurd h
   behaviour-meets-rules (u ∷ us) h =

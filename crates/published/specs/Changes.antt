@@ -30,7 +30,7 @@ use Rattle.cluster.specs.Accepted.{EpochLeft}
 use Rattle.actions.specs.Sound.{Sound}
 use Rattle.actions.specs.Request.{request-old, request-new}
 use Rattle.published.specs.KafkaReplication.{except, Log, LocalState, LeaderAndIsr, requestsPlus, ModelState, SameLog, SameModelState}
-use Rattle.published.specs.Meaning.{constantsOf, logOf, localStateOf, leaderAndIsrOf, quorumOf, requestOf, requestSent, meaning, Means}
+use Rattle.published.specs.Meaning.{constantsOf, logOf, localStateOf, leaderAndIsrOf, quorumOf, requestMeaning, requestSent, meaning, Means}
 use Rattle.published.specs.Reading.{state-at, log-at}
 use Rattle.published.specs.Equality.{same-model-trans, same-model-sym}
 
@@ -119,10 +119,10 @@ module _ (s : State) (d : Sound (s .limits) s) (u : ModelState) (m : Means (s .l
     new = leaderAndIsrOf (pos (nextLeaderEpoch s)) leader isr
 
     old-is : (e : ℕ) → e < nextLeaderEpoch s → requestSent next e ≡ requestSent s e
-    old-is e l = ap (requestOf e) (request-old (s .limits) s d leader isr left e l)
+    old-is e l = ap (requestMeaning e) (request-old (s .limits) s d leader isr left e l)
 
     new-is : requestSent next (nextLeaderEpoch s) ≡ new
-    new-is = ap (requestOf (nextLeaderEpoch s)) (request-new (s .limits) s d leader isr left)
+    new-is = ap (requestMeaning (nextLeaderEpoch s)) (request-new (s .limits) s d leader isr left)
 
     -- the requests are those before and the new one
     requests-iff : (request : LeaderAndIsr)

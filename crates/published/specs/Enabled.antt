@@ -1,7 +1,7 @@
 -- The source's `\E` over the choices of an action comes to naming them by operands. So Next is the choice of some action, and
 -- a kind has an accepted action exactly where the source's action is enabled. Assumes nothing.
 --
---   numberOf kind              a number of the kind
+--   kindNumber kind            a number of the kind
 --   kind-of-number             the kind of that number is the given one
 --   RequestsHaveEpochs u       every request of u has an epoch that an operand can name
 --   means-epochs               it holds of every state of the model that is the meaning of a state
@@ -31,20 +31,20 @@ use Rattle.published.specs.Equality.{same-model-refl}
 use Rattle.published.specs.Engine.{action-is-published}
 
 -- ---- a number of each kind; 9 is one of the numbers that are of no kind
-unfoldable pub numberOf : Kind → ℕ
-numberOf Kinds.ControllerShrinkIsr = 0
-numberOf Kinds.ControllerElectLeader = 1
-numberOf Kinds.BecomeLeader = 2
-numberOf Kinds.BecomeFollower = 3
-numberOf Kinds.LeaderWrite = 4
-numberOf Kinds.LeaderShrinkIsr = 5
-numberOf Kinds.LeaderExpandIsr = 6
-numberOf Kinds.LeaderIncHighWatermark = 7
-numberOf Kinds.FollowerReplicate = 8
-numberOf Kinds.Unknown = 9
+unfoldable pub kindNumber : Kind → ℕ
+kindNumber Kinds.ControllerShrinkIsr = 0
+kindNumber Kinds.ControllerElectLeader = 1
+kindNumber Kinds.BecomeLeader = 2
+kindNumber Kinds.BecomeFollower = 3
+kindNumber Kinds.LeaderWrite = 4
+kindNumber Kinds.LeaderShrinkIsr = 5
+kindNumber Kinds.LeaderExpandIsr = 6
+kindNumber Kinds.LeaderIncHighWatermark = 7
+kindNumber Kinds.FollowerReplicate = 8
+kindNumber Kinds.Unknown = 9
 
-pub kind-of-number : (kind : Kind) → kindOf (numberOf kind) ≡ kind
-unfolding kindOf numberOf
+pub kind-of-number : (kind : Kind) → kindOf (kindNumber kind) ≡ kind
+unfolding kindOf kindNumber
 kind-of-number Kinds.ControllerShrinkIsr = refl
 kind-of-number Kinds.ControllerElectLeader = refl
 kind-of-number Kinds.BecomeLeader = refl
@@ -174,8 +174,8 @@ module _ (k : Constants) (u v : ModelState) where
   next-is-choice epochs = (
     (λ h.
         let p = next-is-source-action .0 h in
-        let w = source-action-is-choice epochs (numberOf (p .0)) .0 (rw (kind-of-number (p .0)) (p .1)) in
-        (actionOf (numberOf (p .0)) (w .0) (w .1) (w .2), w .3)),
+        let w = source-action-is-choice epochs (kindNumber (p .0)) .0 (rw (kind-of-number (p .0)) (p .1)) in
+        (actionOf (kindNumber (p .0)) (w .0) (w .1) (w .2), w .3)),
     (λ h.
         let n = h .0 .kind in
         next-is-source-action .1 (kindOf n, source-action-is-choice epochs n .1 (h .0 .a, h .0 .b, h .0 .e, h .1))),

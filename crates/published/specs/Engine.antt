@@ -55,7 +55,7 @@ module _ (s : State) (d : Sound (s .limits) s) (u : ModelState) (m : Means (s .l
   abbrev R : ℕ
   R = replicaCount (s .limits)
 
-  -- the engine accepts a kind with these operands, and v is the meaning of the next state
+  -- the replicas that the kind uses are below R, the table does not refuse, and v is the meaning of the next state
   record KindAccepts (kind : Kind) (a b e : ℕ) : Type 0 where
     operands : Operands (s .limits) kind a b
     none-refuses : tableRefusal kind s a b e ≡ accepted

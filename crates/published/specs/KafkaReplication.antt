@@ -1,12 +1,14 @@
 -- The published model: the source's MODULE KafkaReplication, operator by operator, in its order and under its names. As the
--- source has them stand its constants and variables, LogRecords, and all from ReplicaOpt to LeaderInIsr. "Its helper modules for
--- logs and number sequences, and the module that joins its actions, aren't in the source; for them this paper decides." So there is
--- no published text to compare these operators with. Where the paper settles one in words, the words stand at it:
+-- source has them stand its constants (Replicas as numbers, by the paper) and variables, LogRecords, and all from ReplicaOpt to
+-- LeaderInIsr. "Its helper modules for logs and number sequences, and the module that joins its actions, aren't in the source; for
+-- them this paper decides." So of the operators of these modules, and of Util, there is no published text to compare with. Where the
+-- paper settles one in words, the words stand at it:
 --   of IdSequence            IdSet, TypeOk, Init
---   of FiniteReplicatedLog   what a log is (Log), Offsets, StartOffset, Init, TypeOk, GetEndOffset, HasOffset
+--   of FiniteReplicatedLog   what a log is (Log), when two are equal (SameLog), Offsets, StartOffset, Init, TypeOk of the ends,
+--                            GetEndOffset, HasOffset
 -- The others neither document defines. They are ours, written to fit the paper's rules, and belong to what a reader must believe:
 --   of IdSequence            NextId
---   of FiniteReplicatedLog   when two logs are equal (SameLog), HasEntry, Append, TruncateTo, ReplicateTo
+--   of FiniteReplicatedLog   that TypeOk asks every record to be one of LogRecords, HasEntry, Append, TruncateTo, ReplicateTo
 --   of Util                  Min
 --   what joins the actions   the follower's action with its choice of a leader (BecomeFollower), Next, finite behaviours
 -- Nothing of the product is used here. Assumes nothing.
@@ -23,9 +25,14 @@
 --   Min a b                           the smaller of two numbers (ours)
 --   ReplicaOpt .. ReplicaState        the types of a leader, an epoch, the quorum and a replica's state
 --   TypeOk k u, Init k u              every variable has its type; u is a first state
+--   ReplicaPresumesLeadership u r     r is its own leader
+--   ReplicaIsFollowing u f l          the leader of f is l
 --   IsTrueLeader u r                  the quorum names r, r is its own leader, and their epochs are equal
---   ControllerShrinkIsr k u v ..      to FollowerReplicate: the source's actions, from u to v; `..With` is a body over its choices
---   IsFollowerCaughtUp k u a b n      b follows a and has the offsets before n, as the source tests it
+--   ControllerUpdateIsr               a new quorum with the next epoch, which is sent as a request
+--   QuorumUpdateLeaderAndIsr          the true leader writes its ISR to the quorum and to itself
+--   ControllerShrinkIsr k u v ..      to FollowerReplicate: the source's actions and their helpers, from u to v; `..With` is a body
+--                                     over its choices
+--   IsFollowerCaughtUp k u a b n      b follows a and, unless n is 0, a has a record at n - 1 and b has that offset
 --   WeakIsr k u, StrongIsr k u        the weak and the strong ISR property; a third property is LeaderInIsr u
 --   BecomeFollower k u v              the follower's action, from u to v (ours)
 --   Next k u v                        one of the nine actions leads from u to v (ours)
@@ -141,7 +148,7 @@ pub record ModelState : Type 1 where
   pub quorumState : LeaderAndIsr
 
 -- ---- equality of values: functions of a replica are compared at Replicas, sets of requests by their members
--- of logs, ours: the ends are compared, and the records below them
+-- of logs, by the paper, since what stands "past a log's end" counts for nothing: the ends are compared, and the records below them
 pub record SameLog (x y : Log) : Type 0 where
   pub end : x .end ≡ y .end
   pub entry : (offset : ℕ) → offset < x .end → x .entry offset ≡ y .entry offset
@@ -324,7 +331,7 @@ abbrev pub newControllerState : Option ℕ → ℕ → ReplicaSet → LeaderAndI
 newControllerState newLeader newLeaderEpoch newIsr =
     record { leaderEpoch = pos newLeaderEpoch; leader = newLeader; isr = newIsr }
 
--- ---- the nine actions: `..With` is the body of an action over its choices
+-- ---- the actions of the source and their helpers: `..With` is the body of an action over its choices
 module _ (k : Constants) (u v : ModelState) where
   -- UNCHANGED, of each variable
   abbrev pub UnchangedReplicaLog : Type 0
@@ -585,11 +592,12 @@ StrongIsr k u =
 abbrev pub LeaderInIsr : ModelState → Type 0
 LeaderInIsr u = (leader : ℕ) × (u .quorumState .leader ≡ some leader) × leader isIn u .quorumState .isr
 
--- ---- what joins the actions; the module that does is not in the source, and all of this is ours
+-- ---- what joins the actions; the module that does is not in the source
 module _ (k : Constants) (u v : ModelState) where
   -- the follower's action, ours: \E leader \in ReplicaOpt, replica \in Replicas :
   --     BecomeFollowerAndTruncateTo(leader, replica, replicaState[replica].hw)
-  -- The source leaves leader and offset open; of the offset the paper says "log cut to a's hw"
+  -- The source leaves leader and offset open. The paper's kind 3 has "leader named: log cut to a's hw. No leader: log kept."; that any
+  -- leader or none may be chosen, by \E, is ours
   abbrev pub BecomeFollower : Type 0
   BecomeFollower =
       (leader : Option ℕ)

@@ -25,7 +25,7 @@ use Rattle.cluster.specs.Accepted.{write-accepted, replicate-accepted}
 use Rattle.actions.specs.Tidy.{tidy-replica-iff}
 use Rattle.actions.specs.Sound.{Sound}
 use Rattle.published.specs.KafkaReplication.{Constants, _isIn_, Replicas, except, exceptHw, LogRecord, Log, LocalState, ModelState, SameLog, SameModelState, followerHw, RecordSeq·IdSet, ReplicaLog·Offsets, LeaderWriteWith, FollowerReplicateWith}
-use Rattle.published.specs.Meaning.{constantsOf, recordOf, logOf, localStateOf, meaning, Means}
+use Rattle.published.specs.Meaning.{constantsOf, recordMeaning, logOf, localStateOf, meaning, Means}
 use Rattle.published.specs.Reading.{state-at, log-at, following-iff, presumes-iff}
 use Rattle.published.specs.Changes.{except-same, except-other, withChanges, Becomes, put-iff, put-only-iff}
 
@@ -35,18 +35,18 @@ appended x offset r = record { end = offset + 1; entry = except (x .entry) offse
 
 -- a record more at the end of a log of the model is a record more at the end of the replica's
 append-log : (x : Log) (p : Replica) (offset : ℕ) (r : Record) → SameLog x (logOf p) → offset ≡ p .end → p .end < length (p .log)
-    → SameLog (appended x offset (recordOf r)) (logOf (append p r))
+    → SameLog (appended x offset (recordMeaning r)) (logOf (append p r))
 unfolding append
 append-log x p offset r m q room =
     record {
       end = ap (λ n. n + 1) q;
       entry = λ y h.
-          each-set (λ w i. except (x .entry) offset (recordOf r) i ≡ recordOf w) (p .log) (p .end) r zeroRecord own y (omega (arith, room, q))
-          (λ n. except-other (x .entry) offset (recordOf r) y (λ i. n (i ∙ q)) ∙ m .entry y (omega (arith, m .end, q)));
+          each-set (λ w i. except (x .entry) offset (recordMeaning r) i ≡ recordMeaning w) (p .log) (p .end) r zeroRecord own y (omega (arith, room, q))
+          (λ n. except-other (x .entry) offset (recordMeaning r) y (λ i. n (i ∙ q)) ∙ m .entry y (omega (arith, m .end, q)));
     }
   where
-    own : except (x .entry) offset (recordOf r) (p .end) ≡ recordOf r
-    own = ap (except (x .entry) offset (recordOf r)) (sym q) ∙ except-same (x .entry) offset (recordOf r)
+    own : except (x .entry) offset (recordMeaning r) (p .end) ≡ recordMeaning r
+    own = ap (except (x .entry) offset (recordMeaning r)) (sym q) ∙ except-same (x .entry) offset (recordMeaning r)
 
 module _ (s : State) (d : Sound (s .limits) s) (u : ModelState) (m : Means (s .limits) u s) (v : ModelState) (a : ℕ) where
   abbrev k : Constants
@@ -63,10 +63,10 @@ module _ (s : State) (d : Sound (s .limits) s) (u : ModelState) (m : Means (s .l
   logs-with r offset = except (u .replicaLog) a (appended (u .replicaLog a) offset r)
 
   own-log : (r : Record) (offset : ℕ) → a < R → offset ≡ own .end → own .end < logSize (s .limits)
-      → SameLog (logs-with (recordOf r) offset a) (logOf (append own r))
+      → SameLog (logs-with (recordMeaning r) offset a) (logOf (append own r))
   own-log r offset l q room =
       let log = tidy-replica-iff own .0 (d .tidy .replicas .used a (omega (arith, d .rules .s1 .ranges .replicas)) l) in
-      rw (except-same (u .replicaLog) a (appended (u .replicaLog a) offset (recordOf r)))
+      rw (except-same (u .replicaLog) a (appended (u .replicaLog a) offset (recordMeaning r)))
       (append-log (u .replicaLog a) own offset r (log-at s u m a l) q (omega (arith, room, log .room, d .rules .s1 .ranges .log)))
 
   -- ---- kind 4
@@ -74,7 +74,7 @@ module _ (s : State) (d : Sound (s .limits) s) (u : ModelState) (m : Means (s .l
     abbrev written : ℕ → LogRecord
     written id = record { id = id; epoch = u .replicaState a .leaderEpoch }
 
-    written-is : (id : ℕ) → id ≡ nextRecordId s → written id ≡ recordOf (nextRecord s a)
+    written-is : (id : ℕ) → id ≡ nextRecordId s → written id ≡ recordMeaning (nextRecord s a)
     written-is id q = λ i. record { id = q i; epoch = state-at s u m a l i .leaderEpoch }
 
     writes : (id offset : ℕ) → id ≡ nextRecordId s → offset ≡ own .end → own .end < logSize (s .limits)
@@ -181,7 +181,7 @@ module _ (s : State) (d : Sound (s .limits) s) (u : ModelState) (m : Means (s .l
           isr = state-at s u m a l i .isr;
         })
 
-    replicates : (r : LogRecord) (offset : ℕ) → r ≡ recordOf copied → offset ≡ own .end → own .end < logSize (s .limits)
+    replicates : (r : LogRecord) (offset : ℕ) → r ≡ recordMeaning copied → offset ≡ own .end → own .end < logSize (s .limits)
         → Becomes u a replicated (logs-with r offset) states-with
     unfolding withHw
     replicates r offset q o room =
@@ -201,7 +201,7 @@ module _ (s : State) (d : Sound (s .limits) s) (u : ModelState) (m : Means (s .l
         let add = t .2 .3 in
         let log = log-at s u m b lb in
         let o : offset ≡ own .end = add .1 ∙ log-at s u m a l .end in
-        let q : r ≡ recordOf copied = sym (entry .1) ∙ log .entry offset (entry .0) ∙ ap (λ x. recordOf (recordAt leading x)) o in (
+        let q : r ≡ recordMeaning copied = sym (entry .1) ∙ log .entry offset (entry .0) ∙ ap (λ x. recordMeaning (recordAt leading x)) o in (
           replicate-accepted s a b .1
               (record {
                 presumes = presumes-iff s u m b lb .0 (t .0);
@@ -227,12 +227,12 @@ module _ (s : State) (d : Sound (s .limits) s) (u : ModelState) (m : Means (s .l
         let log = log-at s u m b lb in
         let below : own .end < u .replicaLog b .end = omega (arith, log .end, f .behind) in
         let n =
-        put-only-iff s d u m a replicated (logs-with (recordOf copied) (own .end)) states-with
-        (replicates (recordOf copied) (own .end) refl refl room) v .1 t in (
+        put-only-iff s d u m a replicated (logs-with (recordMeaning copied) (own .end)) states-with
+        (replicates (recordMeaning copied) (own .end) refl refl room) v .1 t in (
           presumes-iff s u m b lb .1 (f .presumes),
           following-iff s u m a b l .1 (f .follows),
           (
-            recordOf copied,
+            recordMeaning copied,
             own .end,
             (below, log .entry (own .end) below),
             (room, sym (log-at s u m a l .end), n .replicaLog),

@@ -27,12 +27,12 @@ abbrev pub leaderOf : Leader → Option ℕ
 leaderOf None = none
 leaderOf (Some b) = some b
 
-abbrev pub recordOf : Record → LogRecord
-recordOf r = record { id = r .id; epoch = r .epoch }
+abbrev pub recordMeaning : Record → LogRecord
+recordMeaning r = record { id = r .id; epoch = r .epoch }
 
 -- a replica's log: what stands past its end is no part of it
 abbrev pub logOf : Replica → Log
-logOf p = record { end = p .end; entry = λ offset. recordOf (recordAt p offset) }
+logOf p = record { end = p .end; entry = λ offset. recordMeaning (recordAt p offset) }
 
 -- a replica's local state; an ISR is the set of its members
 abbrev pub localStateOf : Replica → LocalState
@@ -45,12 +45,12 @@ leaderAndIsrOf epoch leader isr = record { leaderEpoch = epoch; leader = leaderO
 abbrev pub quorumOf : Quorum → LeaderAndIsr
 quorumOf q = leaderAndIsrOf (q .epoch) (q .leader) (q .isr)
 
-abbrev pub requestOf : ℕ → Request → LeaderAndIsr
-requestOf e q = leaderAndIsrOf (pos e) (q .leader) (q .isr)
+abbrev pub requestMeaning : ℕ → Request → LeaderAndIsr
+requestMeaning e q = leaderAndIsrOf (pos e) (q .leader) (q .isr)
 
 -- the request of epoch e
 abbrev pub requestSent : State → ℕ → LeaderAndIsr
-requestSent s e = requestOf e (requestAt s e)
+requestSent s e = requestMeaning e (requestAt s e)
 
 -- the meaning of a state; its requests are those of the epochs used
 unfoldable pub meaning : State → ModelState

@@ -4,7 +4,7 @@
 --   same-means            equal states mean the same
 --   leader-of-injective   leaders that mean the same are equal
 --   record-of-injective   records that mean the same are equal
---   one-to-one            two states that meet S1 to S7 mean the same exactly when they are equal
+--   one-to-one            two states of one configuration that meet S1 to S7 mean the same exactly when they are equal
 --   means-tidy            a state of the model is the meaning of s exactly where it is that of the tidy form of s
 use Prim.Native.Nat.{ℕ, _<_}
 use mathlib.Core.Path.{_≡_, refl, sym, _∙_, ap}
@@ -31,7 +31,7 @@ use Rattle.cluster.specs.Equality.{same-sym, tidy-same}
 use Rattle.cluster.specs.Unused.{rules-same}
 use Rattle.cluster.specs.ActLaws.{replica-five, end-small, isr-small, quorum-isr-small, request-small}
 use Rattle.published.specs.KafkaReplication.{Constants, LeaderAndIsr, LocalState, ModelState, SameLog, SameModelState}
-use Rattle.published.specs.Meaning.{constantsOf, leaderOf, recordOf, logOf, localStateOf, leaderAndIsrOf, quorumOf, requestOf, requestSent, meaning, Means}
+use Rattle.published.specs.Meaning.{constantsOf, leaderOf, recordMeaning, logOf, localStateOf, leaderAndIsrOf, quorumOf, requestMeaning, requestSent, meaning, Means}
 use Rattle.published.specs.Equality.{same-model-sym, same-model-trans}
 use Rattle.published.specs.Sets.{members-injective}
 
@@ -45,7 +45,7 @@ module _ (s t : State) (h : rules s ≡ true) (m : Same s t) where
   request-over request q =
       let e = q .0 in
       let l = q .1 in
-      (e, rw (m .nextEpoch) at l, q .2 ∙ ap (requestOf e) (m .requests e (request-small s h e l) l))
+      (e, rw (m .nextEpoch) at l, q .2 ∙ ap (requestMeaning e) (m .requests e (request-small s h e l) l))
 
   same-at : (r : ℕ) → r < replicaCount (s .limits) → SameReplica (replicaAt s r) (replicaAt t r)
   same-at r l = m .replicas r (replica-five s h r l) l
@@ -54,7 +54,7 @@ module _ (s t : State) (h : rules s ≡ true) (m : Same s t) where
   log-over r l =
       record {
         end = same-at r l .end;
-        entry = λ offset o. ap recordOf (same-at r l .log offset (omega (arith, end-small s h r l)) o);
+        entry = λ offset o. ap recordMeaning (same-at r l .log offset (omega (arith, end-small s h r l)) o);
       }
 
 pub same-means : (s t : State) → rules s ≡ true → Same s t → Means (s .limits) (meaning s) t
@@ -79,7 +79,7 @@ leader-of-injective None (Some b) e = absurd (Option·none-ne-some b e)
 leader-of-injective (Some a) None e = absurd (Option·none-ne-some a (sym e))
 leader-of-injective (Some a) (Some b) e = ap Some (Option·some-injective a b e)
 
-pub record-of-injective : (r q : Record) → recordOf r ≡ recordOf q → r ≡ q
+pub record-of-injective : (r q : Record) → recordMeaning r ≡ recordMeaning q → r ≡ q
 record-of-injective r q e = λ i. record { id = e i .id; epoch = e i .epoch }
 
 quorum-path : (q p : Quorum) → q .epoch ≡ p .epoch → q .leader ≡ p .leader → q .isr ≡ p .isr → q ≡ p

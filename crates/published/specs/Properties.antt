@@ -20,7 +20,7 @@ use Rattle.cluster.specs.Predicates.{rules-iff}
 use Rattle.questions.specs.Isr.{weakIsr, strongIsr}
 use Rattle.questions.specs.IsrTheorems.{HoldSameRecord, weak-holds, strong-holds}
 use Rattle.published.specs.KafkaReplication.{_isIn_, Replicas, ReplicaPresumesLeadership, HaveOneEntry, WeakIsr, StrongIsr}
-use Rattle.published.specs.Meaning.{constantsOf, leaderOf, recordOf, meaning}
+use Rattle.published.specs.Meaning.{constantsOf, leaderOf, recordMeaning, meaning}
 use Rattle.published.specs.Types.{log-record-ok}
 use Rattle.published.specs.OneToOne.{record-of-injective}
 use Rattle.published.specs.Reading.{leader-names-iff}
@@ -30,10 +30,10 @@ entry-of : (s : State) → rules s ≡ true → (r m offset : ℕ)
     → HoldSameRecord s r m offset → HaveOneEntry (constantsOf (s .limits)) (meaning s) r m offset
 unfolding meaning
 entry-of s h r m offset a = (
-  recordOf (recordAt (replicaAt s r) offset),
+  recordMeaning (recordAt (replicaAt s r) offset),
   log-record-ok s h r offset (a .leader .replica) (a .leader .offset),
   (a .leader .offset, refl),
-  (a .member .offset, ap recordOf (sym (a .record-same))),
+  (a .member .offset, ap recordMeaning (sym (a .record-same))),
 )
 
 same-of : (s : State) (r m offset : ℕ) → r < replicaCount (s .limits) → m < replicaCount (s .limits)

@@ -32,11 +32,11 @@ use Rattle.replica.specs.Change.{withHw, withEnd, withRequest, truncateTo, trun
 use Rattle.parts.specs.Leader.{names}
 use Rattle.cluster.specs.declared.State.{State}
 use Rattle.cluster.specs.State.{replicaCount, nextLeaderEpoch, requestAt, replicaAt}
-use Rattle.cluster.specs.Actions.{leaderRefusal, becomeLeaderRefusal, leadBy, becomeLeader, becomeFollowerRefusal, becomeFollower, becomeFollowerAndTruncateToHw}
+use Rattle.cluster.specs.Actions.{leaderRefusal, becomeLeaderRefusal, leadBy, becomeLeader, becomeFollowerRefusal, becomeFollowerAt, becomeFollowerAndTruncateToHw}
 use Rattle.cluster.specs.Accepted.{become-leader-accepted, become-follower-accepted}
 use Rattle.actions.specs.Sound.{Sound}
 use Rattle.published.specs.KafkaReplication.{Constants, _isIn_, Replicas, ReplicaOpt, except, Log, LocalState, LeaderAndIsr, ModelState, SameLog, SameLogs, ReplicaLog·TruncateTo, Min, UnchangedReplicaLog, BecomeLeaderWith, BecomeFollowerAndTruncateToWith}
-use Rattle.published.specs.Meaning.{constantsOf, leaderOf, recordOf, logOf, requestSent, meaning, Means}
+use Rattle.published.specs.Meaning.{constantsOf, leaderOf, recordMeaning, logOf, requestSent, meaning, Means}
 use Rattle.published.specs.Types.{leader-opt-iff}
 use Rattle.published.specs.Reading.{leader-names-iff, state-at, hw-at, log-at, epoch-above-iff}
 use Rattle.published.specs.Changes.{except-same, except-other, Becomes, put-only-iff}
@@ -181,7 +181,7 @@ module _ (s : State) (d : Sound (s .limits) s) (u : ModelState) (m : Means (s .l
           end = omega (arith, fits);
           entry = λ offset h.
               log-at s u m a l .entry offset (omega (arith, log-at s u m a l .end, h, fits))
-              ∙ ap recordOf
+              ∙ ap recordMeaning
               (sym
               (tidy-replica-same (withEnd own (min truncationOffset (own .end))) .log offset
               (omega (arith, h, fits, d .rules .s2 .ends a l, d .rules .s1 .ranges .log))
@@ -238,10 +238,10 @@ module _ (s : State) (d : Sound (s .limits) s) (u : ModelState) (m : Means (s .l
     FollowStep =
         (becomeFollowerRefusal s a e ≡ accepted)
         × Fits (requestAt s e .leader)
-        × Means (s .limits) v (becomeFollower s a e truncationOffset)
+        × Means (s .limits) v (becomeFollowerAt s a e truncationOffset)
 
     pub follow-iff : BecomeFollowerAndTruncateToWith k u v (leaderOf (requestAt s e .leader)) a truncationOffset (requestSent s e) ↔ FollowStep
-    unfolding becomeFollower
+    unfolding becomeFollowerAt
     follow-iff =
         let above = epoch-above-iff s u m a e l in
         let put = put-only-iff s d u m a follower-after (logs-under (requestAt s e .leader)) states-followed in (

@@ -32,7 +32,7 @@ use Rattle.cluster.specs.State.{replicaCount, logSize, maxRecords, maxLeaderEpo
 use Rattle.cluster.specs.Rules.{rules}
 use Rattle.cluster.specs.Predicates.{Named, Has, Rules, rules-iff}
 use Rattle.published.specs.KafkaReplication.{Constants, Log, ModelState, SameLog, SameModelState, LogType, LogRecords, LeaderEpochSeq·IdSet, LeaderEpochOpt, ReplicaOpt, QuorumState, ReplicaState, TypeOk}
-use Rattle.published.specs.Meaning.{constantsOf, leaderOf, recordOf, localStateOf, leaderAndIsrOf, requestSent, meaning}
+use Rattle.published.specs.Meaning.{constantsOf, leaderOf, recordMeaning, localStateOf, leaderAndIsrOf, requestSent, meaning}
 
 -- ---- leaders, epochs and records, each way
 module _ (c : Limits) where
@@ -80,7 +80,7 @@ module _ (c : Limits) where
   )
 
   -- a record is of LogRecords exactly where its id is below M and its epoch from 0 to X
-  record-iff : (r : Record) → 1 ≤ maxRecords c → LogRecords k (recordOf r) ↔ InUse (maxRecords c) (maxLeaderEpoch c + 1) r
+  record-iff : (r : Record) → 1 ≤ maxRecords c → LogRecords k (recordMeaning r) ↔ InUse (maxRecords c) (maxLeaderEpoch c + 1) r
   record-iff r some-id = (
     (λ t.
         let e = epoch-id-iff (r .epoch) .0 (t .epoch) in
@@ -128,8 +128,8 @@ module _ (c : Limits) where
             record { hw = hw-iff (p .hw) .1 (t .0); leaderEpoch = w .leaderEpoch; leader = w .leader; isr = w .isr }),
       )
 
--- ---- what TypeOk says of a state: S1 and S2 but for the ranges of R, L, M and X; epochs at most X; hw at most L; ids of records
--- below M, epochs of records from 0 to X
+-- ---- what TypeOk says of a state: S1, and S2 with ISRs as sets, but for the ranges of R, L, M and X; epochs at most X; hw at most L;
+-- ids of records below M, epochs of records from 0 to X
 pub record TypeOkSays (s : State) : Type 0 where
   pub epochs : nextLeaderEpoch s ≤ maxLeaderEpoch (s .limits) + 1
   pub ids : nextRecordId s ≤ maxRecords (s .limits)
@@ -223,7 +223,7 @@ module _ (s : State) where
     rules-type-ok = type-ok-iff (met .s1 .ranges .records-low) .1 rules-say
 
     -- each record of a log is one of LogRecords
-    pub log-record-ok : (r offset : ℕ) → r < R → offset < replicaAt s r .end → LogRecords (constantsOf (s .limits)) (recordOf (recordAt (replicaAt s r) offset))
+    pub log-record-ok : (r offset : ℕ) → r < R → offset < replicaAt s r .end → LogRecords (constantsOf (s .limits)) (recordMeaning (recordAt (replicaAt s r) offset))
     log-record-ok r offset l o =
         record-iff c (recordAt (replicaAt s r) offset) (met .s1 .ranges .records-low) .1
         (rules-say .records r offset (record { replica = l; offset = o }))

@@ -14,7 +14,7 @@ use Rattle.parts.specs.Refusal.{accepted}
 use Rattle.parts.specs.declared.Leader.the-variants.{Some}
 use Rattle.parts.specs.Isr.{member, fullIsr, isrBelow, isrOf, without}
 use Rattle.parts.specs.Epoch.{sameEpoch, lastEpoch, epochUsed}
-use Rattle.parts.specs.Leader.{sameLeader, leaderBelow, leaderInIsr}
+use Rattle.parts.specs.Leader.{sameLeader, leaderBelow, leaderNoneOrInIsr}
 use Rattle.replica.specs.declared.Replica.{Replica}
 use Rattle.replica.specs.Replica.{replicaOf, zeroRecord, zeroReplica}
 use Rattle.replica.specs.Change.{withIsr}
@@ -54,6 +54,6 @@ unfolding differingIsrs askIsr checkIsr isrAnswerOf smallestFailure differAt off
     operandsFit operandBounds operandBound uses kindOf leaderShrinkIsr leaderShrinkIsrRefusal quorumUpdateLeaderAndIsr isFollowerCaughtUp
     isTrueLeader replicaIsFollowing replicaPresumesLeadership rules rule7 agreesWithAll rule6 rule5 replicaMeetsS5 replicaMatchesRequest rule4
     rule3 quorumMatchesRequest rule2 replicaInRange leaderAndIsrInRange rule1 inRange between withReplica withQuorumIsr withIsr holdSameRecord
-    sameRecord logsAgree recordAgrees recordsAgree logInUse recordInUse leaderInIsr leaderBelow sameLeader epochUsed lastEpoch sameEpoch without
+    sameRecord logsAgree recordAgrees recordsAgree logInUse recordInUse leaderNoneOrInIsr leaderBelow sameLeader epochUsed lastEpoch sameEpoch without
     isrOf isrBelow fullIsr member firstTriple firstSecond firstThird passing firstBelow orElse refuse byRefusal stateRefusal ruleRefusal brokenRule firstFailing every allBelow
 kind-five-breaks-strong = record { meets = refl; accepts = refl; held = refl; fails = refl }

@@ -43,7 +43,7 @@ use Rattle.cluster.specs.declared.Kind.{Kind}
 use Rattle.cluster.specs.declared.Kind.the-variants.{ControllerShrinkIsr, ControllerElectLeader, BecomeLeader, BecomeFollower, LeaderWrite, LeaderShrinkIsr, LeaderExpandIsr, LeaderIncHighWatermark, FollowerReplicate, Unknown}
 use Rattle.cluster.specs.State.{replicaCount, nextLeaderEpoch, requestAt, replicaIn, replicaAt, withReplica, withQuorumIsr, withNextRecordId, controllerUpdateIsr}
 use Rattle.cluster.specs.Predicates.{Rules}
-use Rattle.cluster.specs.Actions.{replicaIsFollowing, shrinkBy, controllerShrinkIsr, controllerElectLeader, leadBy, becomeLeader, becomeFollower, becomeFollowerAndTruncateToHw, leaderWrite, quorumUpdateLeaderAndIsr, leaderShrinkIsr, leaderExpandIsr, leaderIncHighWatermark, followerReplicateRefusal, followerReplicate}
+use Rattle.cluster.specs.Actions.{replicaIsFollowing, shrinkBy, controllerShrinkIsr, controllerElectLeader, leadBy, becomeLeader, becomeFollowerAt, becomeFollowerAndTruncateToHw, leaderWrite, quorumUpdateLeaderAndIsr, leaderShrinkIsr, leaderExpandIsr, leaderIncHighWatermark, followerReplicateRefusal, followerReplicate}
 use Rattle.cluster.specs.Act.{uses, tableRefusal, tableEffect}
 use Rattle.cluster.specs.Accepted.{Operands, become-leader-accepted, become-follower-accepted, replicate-accepted}
 use Rattle.actions.specs.Sound.{Sound}
@@ -234,8 +234,8 @@ module _ (c : Limits) (s : State) (sound : Sound c s) where
       ]
 
   pub follower-in-doubt : (property : Property) (a e offset : ℕ) → a < R → names (requestAt s e .leader) a ≡ false → (i : ℕ) → i < R
-      → OnlyInDoubt property (cutDoubt (becomeFollower s a e offset) a) quorumIsr (becomeFollower s a e offset .quorum .isr) (replicaAt s i) (replicaAt (becomeFollower s a e offset) i) i
-  unfolding becomeFollower withReplica
+      → OnlyInDoubt property (cutDoubt (becomeFollowerAt s a e offset) a) quorumIsr (becomeFollowerAt s a e offset .quorum .isr) (replicaAt s i) (replicaAt (becomeFollowerAt s a e offset) i) i
+  unfolding becomeFollowerAt withReplica
   follower-in-doubt property a e offset l other =
       put-each (OnlyInDoubt property d quorumIsr quorumIsr) a q
       (follower-in-doubt-by property d quorumIsr quorumIsr (replicaAt s a) q a (follows-other a e offset other) (λ x. cut-from x (follower-log (replicaAt s a) _ _ _ offset small x)))
@@ -387,15 +387,15 @@ module _ (c : Limits) (s : State) (sound : Sound c s) where
 
   -- ---- and what is exposed: nothing more by kind 3, whatever the offset
   pub cut-exposed : (a e offset : ℕ) → names (requestAt s e .leader) a ≡ false → (i : ℕ) → i < R
-      → NoMoreExposed (replicaAt s i) (replicaAt (becomeFollower s a e offset) i) i
-  unfolding becomeFollower withReplica
+      → NoMoreExposed (replicaAt s i) (replicaAt (becomeFollowerAt s a e offset) i) i
+  unfolding becomeFollowerAt withReplica
   cut-exposed a e offset other =
       put-each NoMoreExposed a _ (follower-exposed _ _ a (follows-other a e offset other)) (λ j k. same-exposed (replicaAt s j) j)
 
   -- nor by any kind but 2 and 7
   pub kind-exposed : (kind : Kind) (a b e : ℕ) → tableRefusal kind s a b e ≡ accepted → exposing kind ≡ false → (i : ℕ) → i < R
       → NoMoreExposed (replicaAt s i) (replicaAt (tableEffect kind s a b e) i) i
-  unfolding tableRefusal tableEffect exposing controllerShrinkIsr controllerElectLeader controllerUpdateIsr becomeFollowerAndTruncateToHw becomeFollower
+  unfolding tableRefusal tableEffect exposing controllerShrinkIsr controllerElectLeader controllerUpdateIsr becomeFollowerAndTruncateToHw becomeFollowerAt
       leaderWrite withNextRecordId withReplica leaderShrinkIsr leaderExpandIsr quorumUpdateLeaderAndIsr withQuorumIsr followerReplicate withHw append
   kind-exposed ControllerShrinkIsr a b e h more i l =
       rw (shrink-replicas a (names (s .quorum .leader) a) (isAlone quorumIsr a)) (same-exposed (replicaAt s i) i)

@@ -1,5 +1,5 @@
 -- Where weak or strong ISR held before an accepted action, it holds after it exactly where the narrow test does, which asks about
--- what is in doubt alone; and no kind but 2 and 7 exposes more, or another record. Assumes nothing.
+-- what is in doubt alone; and no kind but 2 and 7 exposes more, or another record id. Assumes nothing.
 --
 --   HoldsInDoubt d property s                  the property holds of all that is in doubt
 --   Exposes s id                               a presuming replica has a record of this id below its high watermark
@@ -7,9 +7,9 @@
 --   narrow-decides                             where the property held and only what is in doubt is new, the narrow test decides
 --   holds-after                                so it does after an accepted action on a tidy state that meets the rules
 --   reads-within                               what the test reads of the next state is there
---   exposes-no-more, exposes-no-other          an action of any kind but 2 and 7 exposes no more, and no other record
+--   exposes-no-more, exposes-no-other          an action of any kind but 2 and 7 exposes no more, and no other record id
 --   holds-after-cut                            holds-after for kind 3, whatever offset the log is cut to
---   cut-exposes-no-more, cut-exposes-no-other  kind 3 exposes no more, and no other record, whatever the offset
+--   cut-exposes-no-more, cut-exposes-no-other  kind 3 exposes no more, and no other record id, whatever the offset
 --   act-holds-after                            holds-after for any state that accepts the action, tidy or not
 use Prim.Native.Nat.{ℕ, zero, suc, _≤_, _<_}
 use mathlib.Core.Path.{_≡_, refl, sym, _∙_, ap}
@@ -34,7 +34,7 @@ use Rattle.cluster.specs.Equality.{tidy-same, tidy-twice}
 use Rattle.cluster.specs.Unused.{rules-tidy}
 use Rattle.cluster.specs.Rules.{rules}
 use Rattle.cluster.specs.Predicates.{Rules, rules-iff}
-use Rattle.cluster.specs.Actions.{replicaPresumesLeadership, becomeFollowerRefusal, becomeFollower}
+use Rattle.cluster.specs.Actions.{replicaPresumesLeadership, becomeFollowerRefusal, becomeFollowerAt}
 use Rattle.cluster.specs.Act.{kindOf, actionRefusal, effect, act}
 use Rattle.cluster.specs.ActLaws.{accepts}
 use Rattle.cluster.specs.Accepted.{Operands, operands-of, action-accepted, presumes-itself, become-follower-accepted}
@@ -226,13 +226,13 @@ module _ (s : State) (action : Action) (h : rules s ≡ true) (tidied : tidy s �
       (kind-in-doubt (s .limits) s sound (kindOf (action .kind)) (action .a) (action .b) (action .e)
       (operands-of (s .limits) action (p .0) (kindOf (action .kind)) refl) (p .1) property)
 
-  -- what the code reads of the next state is there
   operands : Operands (s .limits) (kindOf (action .kind)) (action .a) (action .b)
   operands = operands-of (s .limits) action (action-accepted s action ok .0) (kindOf (action .kind)) refl
 
   below-five : (i : ℕ) → i < replicaCount (s .limits) → i < 5
   below-five i l = omega (arith, sound .rules .s1 .ranges .replicas)
 
+  -- what the code reads of the next state is there
   pub reads-within : ReadsWithin next action
   unfolding effect
   reads-within =
@@ -243,7 +243,7 @@ module _ (s : State) (action : Action) (h : rules s ≡ true) (tidied : tidy s �
         raised = λ k. hw-raised (s .limits) s sound (kindOf (action .kind)) k (action .a) (action .b) (action .e) operands;
       }
 
-  -- ---- a kind that is neither 2 nor 7 exposes no more, and no other record
+  -- ---- a kind that is neither 2 nor 7 exposes no more, and no other record id
   module _ (less : exposesMore (action .kind) ≡ false) where
     no-more-each : (r : ℕ) → r < replicaCount (s .limits) → NoMoreExposed (replicaAt s r) (replicaAt next r) r
     unfolding effect
@@ -260,7 +260,7 @@ module _ (s : State) (h : rules s ≡ true) (tidied : tidy s ≡ s) (a e offset 
     (ok : becomeFollowerRefusal s a e ≡ accepted)
   where
     abbrev cut : State
-    cut = becomeFollower s a e offset
+    cut = becomeFollowerAt s a e offset
 
     cut-sound : Sound (s .limits) cut
     cut-sound = become-follower-at-sound (s .limits) s (sound-of s h tidied) a e offset replica (become-follower-accepted s a e .0 ok .0)
@@ -271,7 +271,7 @@ module _ (s : State) (h : rules s ≡ true) (tidied : tidy s ≡ s) (a e offset 
         narrow-decides property (cutDoubt cut a) s cut h (rules-iff cut .1 (cut-sound .rules)) (cut-sound .limits)
         (follower-in-doubt (s .limits) s (sound-of s h tidied) property a e offset replica (become-follower-accepted s a e .0 ok .1))
 
-    -- and it exposes no more, and no other record
+    -- and it exposes no more, and no other record id
     no-more-after-cut : (i : ℕ) → i < replicaCount (s .limits) → NoMoreExposed (replicaAt s i) (replicaAt cut i) i
     no-more-after-cut = cut-exposed (s .limits) s (sound-of s h tidied) a e offset (become-follower-accepted s a e .0 ok .1)
 

@@ -25,7 +25,7 @@ use Rattle.cluster.specs.declared.State.{State}
 use Rattle.cluster.specs.declared.Kind.{Kind}
 use Rattle.cluster.specs.declared.Kind.the-variants.{ControllerShrinkIsr, ControllerElectLeader, BecomeLeader, BecomeFollower, LeaderWrite, LeaderShrinkIsr, LeaderExpandIsr, LeaderIncHighWatermark, FollowerReplicate, Unknown}
 use Rattle.cluster.specs.State.{replicaCount, nextLeaderEpoch, nextRecordId, requestAt, replicaAt, withReplica, withQuorumIsr, withNextRecordId, controllerUpdateIsr}
-use Rattle.cluster.specs.Actions.{replicaPresumesLeadership, replicaIsFollowing, isTrueLeader, isFollowerCaughtUp, epochsUsedUp, requestMissing, epochNotAbove, controllerShrinkIsrRefusal, shrinkBy, controllerShrinkIsr, controllerElectLeaderRefusal, controllerElectLeader, leaderRefusal, becomeLeaderRefusal, leadBy, becomeLeader, becomeFollowerRefusal, becomeFollower, becomeFollowerAndTruncateToHw, leaderWriteRefusal, nextRecord, leaderWrite, quorumUpdateLeaderAndIsr, leaderShrinkIsrRefusal, leaderShrinkIsr, leaderExpandIsrRefusal, leaderExpandIsr, memberHasHw, leaderIncHighWatermarkRefusal, leaderIncHighWatermark, followerReplicateRefusal, followerReplicate}
+use Rattle.cluster.specs.Actions.{replicaPresumesLeadership, replicaIsFollowing, isTrueLeader, isFollowerCaughtUp, epochsUsedUp, requestMissing, epochNotAbove, controllerShrinkIsrRefusal, shrinkBy, controllerShrinkIsr, controllerElectLeaderRefusal, controllerElectLeader, leaderRefusal, becomeLeaderRefusal, leadBy, becomeLeader, becomeFollowerRefusal, becomeFollowerAt, becomeFollowerAndTruncateToHw, leaderWriteRefusal, nextRecord, leaderWrite, quorumUpdateLeaderAndIsr, leaderShrinkIsrRefusal, leaderShrinkIsr, leaderExpandIsrRefusal, leaderExpandIsr, memberHasHw, leaderIncHighWatermarkRefusal, leaderIncHighWatermark, followerReplicateRefusal, followerReplicate}
 use Rattle.cluster.specs.Act.{tableRefusal, tableEffect}
 use Rattle.renamings.specs.Renaming.{Renaming, eqb-to, all-to}
 use Rattle.renamings.specs.Rename.{renameLeader, renameIsr, renameRequest, renameReplica, renameState}
@@ -133,7 +133,7 @@ module _ (s : State) (p : Renaming (replicaCount (s .limits))) (five : replicaCo
 
   -- the effect is the renamed effect
   pub effect-renamed : (kind : Kind) (a b e : ℕ) → tableEffect kind (ren s) (p .to a) (p .to b) e ≡ ren (tableEffect kind s a b e)
-  unfolding tableEffect controllerShrinkIsr controllerElectLeader becomeLeader becomeFollowerAndTruncateToHw becomeFollower leaderWrite
+  unfolding tableEffect controllerShrinkIsr controllerElectLeader becomeLeader becomeFollowerAndTruncateToHw becomeFollowerAt leaderWrite
       leaderShrinkIsr leaderExpandIsr leaderIncHighWatermark followerReplicate renameLeader withNextRecordId append withHw
   effect-renamed ControllerShrinkIsr a b e =
       rw (names-renamed p five (s .quorum .leader) a, alone-renamed p five (s .quorum .isr) a)

@@ -11,7 +11,7 @@
 --   fitting-rows .. fitting-at              the fitting rows are these, n! of them; what is read off is not below 5 - n
 --   counts-are-factorials                   n! by the constant of the code
 --   fitting-fits, fitting-all               each is a renaming of n replicas, and each renaming of n replicas is one of them
---   fitting-first, fitting-once             the first leaves every replica; none stands twice
+--   fitting-first, fitting-once             the first keeps every name; none stands twice
 --   fitting-one, fitting-most, fitting-few  there is one at least, there are at most 120, and below five replicas at most 24
 --   groupRest n b k                         how many rows from row k on agree with it up to place b
 --   behindGroup n b k to                    the row behind those, or `to` where that comes before

@@ -25,32 +25,32 @@ leader-twice u t None = refl
 leader-twice u t (Some b) = refl
 
 module _ {n : ℕ} (p q : Renaming n) (five : n ≤ 5) where
-  abbrev composite : Renaming n
-  composite = compose p q
+  abbrev pAfterQ : Renaming n
+  pAfterQ = compose p q
 
-  isr-twice : (isr : ℕ) → renameIsr (composite .from) isr ≡ renameIsr (p .from) (renameIsr (q .from) isr)
+  isr-twice : (isr : ℕ) → renameIsr (pAfterQ .from) isr ≡ renameIsr (p .from) (renameIsr (q .from) isr)
   unfolding renameIsr
   isr-twice isr =
       isrOf-cong (λ j. member isr (q .from (p .from j))) (λ j. member (isrOf (λ i. member isr (q .from i))) (p .from j))
       (λ j h. sym (member-isrOf (λ i. member isr (q .from i)) (p .from j) (from-below p 5 five j h)))
 
   request-twice : (r : Request)
-      → renameRequest (composite .to) (composite .from) r ≡ renameRequest (p .to) (p .from) (renameRequest (q .to) (q .from) r)
+      → renameRequest (pAfterQ .to) (pAfterQ .from) r ≡ renameRequest (p .to) (p .from) (renameRequest (q .to) (q .from) r)
   request-twice r = rw (leader-twice (p .to) (q .to) (r .leader), isr-twice (r .isr)) refl
 
   replica-twice : (r : Replica)
-      → renameReplica (composite .to) (composite .from) r ≡ renameReplica (p .to) (p .from) (renameReplica (q .to) (q .from) r)
+      → renameReplica (pAfterQ .to) (pAfterQ .from) r ≡ renameReplica (p .to) (p .from) (renameReplica (q .to) (q .from) r)
   replica-twice r = rw (leader-twice (p .to) (q .to) (r .leader), isr-twice (r .isr)) refl
 
   -- first q and then p is the composed renaming
   pub rename-twice : (s : State)
-      → renameState (composite .to) (composite .from) s ≡ renameState (p .to) (p .from) (renameState (q .to) (q .from) s)
+      → renameState (pAfterQ .to) (pAfterQ .from) s ≡ renameState (p .to) (p .from) (renameState (q .to) (q .from) s)
   unfolding renameReplicas
   rename-twice s =
       state-path refl refl refl
       (rw (leader-twice (p .to) (q .to) (s .quorum .leader), isr-twice (s .quorum .isr)) refl)
-      (map-twice (renameRequest (p .to) (p .from)) (renameRequest (q .to) (q .from)) (renameRequest (composite .to) (composite .from)) request-twice (s .requests))
-      (table-cong 5 (renamedReplicaAt (composite .to) (composite .from) (s .replicas))
+      (map-twice (renameRequest (p .to) (p .from)) (renameRequest (q .to) (q .from)) (renameRequest (pAfterQ .to) (pAfterQ .from)) request-twice (s .requests))
+      (table-cong 5 (renamedReplicaAt (pAfterQ .to) (pAfterQ .from) (s .replicas))
       (renamedReplicaAt (p .to) (p .from) (renameReplicas (q .to) (q .from) (s .replicas)))
       (λ j h.
       replica-twice (replicaIn (s .replicas) (q .from (p .from j)))

@@ -30,7 +30,7 @@ use Rattle.parts.specs.declared.Leader.{Leader}
 use Rattle.parts.specs.declared.Leader.the-variants.{None, Some}
 use Rattle.parts.specs.Isr.{member, fullIsr, isrOf, without, including, noOther, isAlone}
 use Rattle.parts.specs.IsrLaws.{member-past, member-none, member-full, member-isrOf, isrOf-small, isrOf-cong, isrOf-member, full-below, below-32}
-use Rattle.parts.specs.Leader.{names, sameLeader, leaderBelow, leaderInIsr}
+use Rattle.parts.specs.Leader.{names, sameLeader, leaderBelow, leaderNoneOrInIsr}
 use Rattle.parts.specs.LeaderLaws.{isr-below-iff}
 use Rattle.replica.specs.declared.Replica.{Replica}
 use Rattle.replica.specs.Replica.{noReplica, zeroReplica}
@@ -162,8 +162,8 @@ module _ {n : ℕ} (p : Renaming n) (five : n ≤ 5) where
   leader-below-renamed None = refl
   leader-below-renamed (Some b) = ltb-to p n (le-refl n) b
 
-  pub leader-in-isr-renamed : (isr : ℕ) (leader : Leader) → leaderInIsr (renameIsr (p .from) isr) (renameLeader (p .to) leader) ≡ leaderInIsr isr leader
-  unfolding leaderInIsr renameLeader
+  pub leader-in-isr-renamed : (isr : ℕ) (leader : Leader) → leaderNoneOrInIsr (renameIsr (p .from) isr) (renameLeader (p .to) leader) ≡ leaderNoneOrInIsr isr leader
+  unfolding leaderNoneOrInIsr renameLeader
   leader-in-isr-renamed isr None = refl
   leader-in-isr-renamed isr (Some b) = member-renamed isr b
 
@@ -205,7 +205,7 @@ module _ {n : ℕ} (p : Renaming n) (five : n ≤ 5) where
         | yes h ↦
             sym
             (ext-table noReplica 5 g (set (table 5 f) (p .to i) v) (length-set (table 5 f) (p .to i) v ∙ length-table 5 f)
-            (λ j b. entry-is h j b (ℕ-discrete j (p .to i))))
+            (λ j b. element-is h j b (ℕ-discrete j (p .to i))))
         | no h ↦
             rw (p .keeps i (omega arith), set-out replicas i r (omega arith), set-out (table 5 f) i v (omega (arith, length-table 5 f)))
       ]
@@ -219,12 +219,12 @@ module _ {n : ℕ} (p : Renaming n) (five : n ≤ 5) where
       v : Replica
       v = renameReplica (p .to) (p .from) r
 
-      entry-is : i < 5 → (j : ℕ) → j < 5 → Dec (j ≡ p .to i) → getD (set (table 5 f) (p .to i) v) j noReplica ≡ g j
-      entry-is h j b (yes q) =
+      element-is : i < 5 → (j : ℕ) → j < 5 → Dec (j ≡ p .to i) → getD (set (table 5 f) (p .to i) v) j noReplica ≡ g j
+      element-is h j b (yes q) =
           rw (q, p .from-to i)
           (getD-set-same (table 5 f) (p .to i) v noReplica (omega (arith, length-table 5 f, to-below p 5 five i h))
           ∙ ap (renameReplica (p .to) (p .from)) (sym (getD-set-same replicas i r noReplica (omega arith))))
-      entry-is h j b (no q) =
+      element-is h j b (no q) =
           getD-set-other (table 5 f) (p .to i) j v noReplica q
           ∙ getD-table 5 f j noReplica b
           ∙ ap (renameReplica (p .to) (p .from))

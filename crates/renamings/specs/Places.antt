@@ -61,41 +61,41 @@ state-five p s = ap₂ (λ (t f : ℕ → ℕ). renameState t f s) (fun-ext (new
 
 -- ---- one after the other
 module _ (n : ℕ) (small : n ≤ 5) (p q : List ℕ) (f : isRenaming n p ≡ true) (g : isRenaming n q ≡ true) where
-  abbrev composite : Renaming n
-  composite = compose (renamingOf n small p f) (renamingOf n small q g)
+  abbrev pAfterQ : Renaming n
+  pAfterQ = compose (renamingOf n small p f) (renamingOf n small q g)
 
   pub composed-renaming : isRenaming n (composed p q) ≡ true
   unfolding composed placesOf
-  composed-renaming = places-renaming small composite
+  composed-renaming = places-renaming small pAfterQ
 
   pub composed-names : (i : ℕ) → newName (composed p q) i ≡ newName p (newName q i)
   unfolding composed placesOf
-  composed-names = new-name-places small composite
+  composed-names = new-name-places small pAfterQ
 
-  pub composed-state : (s : State) → renameState (newName (composed p q)) (oldName (composed p q)) s ≡ renameState (composite .to) (composite .from) s
+  pub composed-state : (s : State) → renameState (newName (composed p q)) (oldName (composed p q)) s ≡ renameState (pAfterQ .to) (pAfterQ .from) s
   unfolding composed placesOf
-  composed-state = state-places small composite
+  composed-state = state-places small pAfterQ
 
 -- ---- the inverse
 module _ (n : ℕ) (small : n ≤ 5) (p : List ℕ) (f : isRenaming n p ≡ true) where
-  abbrev reversed : Renaming n
-  reversed = inverse (renamingOf n small p f)
+  abbrev inverseOfP : Renaming n
+  inverseOfP = inverse (renamingOf n small p f)
 
   pub inverted-renaming : isRenaming n (inverted p) ≡ true
   unfolding inverted placesOf
-  inverted-renaming = places-renaming small reversed
+  inverted-renaming = places-renaming small inverseOfP
 
   pub inverted-names : (i : ℕ) → newName (inverted p) (newName p i) ≡ i
   unfolding inverted placesOf
-  inverted-names i = new-name-places small reversed (newName p i) ∙ renamingOf n small p f .from-to i
+  inverted-names i = new-name-places small inverseOfP (newName p i) ∙ renamingOf n small p f .from-to i
 
   pub names-inverted : (i : ℕ) → newName p (newName (inverted p) i) ≡ i
   unfolding inverted placesOf
-  names-inverted i = ap (newName p) (new-name-places small reversed i) ∙ renamingOf n small p f .to-from i
+  names-inverted i = ap (newName p) (new-name-places small inverseOfP i) ∙ renamingOf n small p f .to-from i
 
   pub inverted-state : (s : State) → renameState (newName (inverted p)) (oldName (inverted p)) s ≡ renameState (oldName p) (newName p) s
   unfolding inverted placesOf
-  inverted-state = state-places small reversed
+  inverted-state = state-places small inverseOfP
 
 -- ---- the words of the paper
 -- "the first R hold 0 to R-1 once each, the others their own number"

@@ -64,17 +64,17 @@ module _ (s : State) (h : rules s ≡ true) (p : List ℕ) (f : Renames s p) whe
   abbrev renamingByP : Renaming (replicaCount (tidy s .limits))
   renamingByP = renamingBy p f
 
-  renamed-met : Met (renamed p s)
+  renamed-is-met : Met (renamed p s)
   unfolding renamed
-  renamed-met = met-renamed (tidy s) met renamingByP
+  renamed-is-met = met-renamed (tidy s) met renamingByP
 
   -- a renaming keeps S1 to S7
   pub renamed-meets-rules : rules (renamed p s) ≡ true
-  renamed-meets-rules = renamed-met .rules
+  renamed-meets-rules = renamed-is-met .rules
 
   -- and puts zeros in unused room
   pub renamed-is-tidy : tidy (renamed p s) ≡ renamed p s
-  renamed-is-tidy = renamed-met .tidy
+  renamed-is-tidy = renamed-is-met .tidy
 
   -- R, L, M, X, next epoch and next id stay
   pub renamed-rest : (renamed p s .limits ≡ s .limits) × (nextLeaderEpoch (renamed p s) ≡ nextLeaderEpoch s) × (nextRecordId (renamed p s) ≡ nextRecordId s)
@@ -131,7 +131,7 @@ module _ (s : State) (h : rules s ≡ true) (p : List ℕ) (f : Renames s p) whe
   pub renamed-back : renamed (inverted p) (renamed p s) ≡ tidy s
   unfolding renamed
   renamed-back =
-      ap (renameState (newName (inverted p)) (oldName (inverted p))) (renamed-met .tidy)
+      ap (renameState (newName (inverted p)) (oldName (inverted p))) (renamed-is-met .tidy)
       ∙ inverted-state (replicaCount (tidy s .limits)) small p (renames-tidy s p .0 f) (renameState (newName p) (oldName p) (tidy s))
       ∙ rename-back renamingByP small (tidy s) (fits (tidy s) met)
 
@@ -139,6 +139,6 @@ module _ (s : State) (h : rules s ≡ true) (p : List ℕ) (f : Renames s p) whe
   pub renamed-twice : (q : List ℕ) → Renames s q → renamed q (renamed p s) ≡ renamed (composed q p) s
   unfolding renamed
   renamed-twice q g =
-      ap (renameState (newName q) (oldName q)) (renamed-met .tidy)
+      ap (renameState (newName q) (oldName q)) (renamed-is-met .tidy)
       ∙ sym (rename-twice (renamingBy q g) renamingByP small (tidy s))
       ∙ sym (composed-state (replicaCount (tidy s .limits)) small q p (renames-tidy s q .0 g) (renames-tidy s p .0 f) (tidy s))

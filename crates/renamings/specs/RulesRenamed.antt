@@ -1,6 +1,6 @@
 -- A renamed state meets S1 to S7 exactly where the state does. Assumes nothing.
 --
---   Fits s                            the state has five replicas, and each ISR is of five replicas
+--   Fits s                            the array of replicas has five places, and each ISR is below 32
 --   within-renamed, in-range-renamed  an ISR, and a leader with it, is in range exactly where the renamed one is
 --   rule2-renamed .. rule7-renamed    each of S2 to S7 holds of the renamed state exactly where it holds of the state
 --   matches-renamed                   the part of S5 on a replica's epoch, leader and ISR
@@ -26,7 +26,7 @@ use Rattle.renamings.specs.Renaming.{Renaming, inverse, ltb-to, all-to}
 use Rattle.renamings.specs.Rename.{renameLeader, renameIsr, renameReplica, renameState}
 use Rattle.renamings.specs.PartsRenamed.{member-renamed, isr-small, full-renamed, none-renamed, names-renamed, leader-below-renamed, leader-in-isr-renamed, same-leader-renamed, no-leader-renamed, replica-renamed, request-renamed}
 
--- five replicas, and each ISR is of five replicas
+-- the array of replicas has five places, and each ISR is of five replicas
 pub record Fits (s : State) : Type 0 where
   pub five : length (s .replicas) ≡ 5
   pub quorum : s .quorum .isr < 32

@@ -10,7 +10,7 @@
 --   stateReply .. imageReply        the replies of the library's answers: states, weak and strong ISR, offers, images
 --   widthRefusal state              21 or 23 where bytes are not as many as a flat state has
 --   onState state reply             the reply by the state of these bytes, or that refusal
---   renameBy s places               the state under places that come as bytes, five of them or not
+--   renameBy s places               what renaming by places that come as bytes answers; 27 where they are not five
 --   numberBytes n, verdictBytes v   a number as four bytes, and a verdict as 250
 --   replayFresh .. replayJudge      the reply of each of the ten functions
 --   numberAndLength reply out       what replay_write_image returns

@@ -8,7 +8,8 @@
 --   five-places                       five places, taken one by one, are the list
 --   rename-five .. rename-uncounted   renaming by five places, and by any other count of them
 --   bool-byte                         whether a property holds, as a byte
---   ImageReplies s out                writing an image answers what the interface returns and leaves
+--   ImageReplies s out                writing an image answers what the interface returns and leaves, a number below 256 and a
+--                                     length of at most 227
 --   image-replies                     it does so for every state and every buffer
 --   read-refuses, read-replies        reading an image that is refused by its bytes, and one whose parts are all there
 --   verdict-width                     a verdict has 250 bytes
@@ -149,9 +150,9 @@ pub record ImageReplies (s : State) (out : List ℕ) : Type 0 where
   pub answer : writeImage s out .refusal + 256 * writeImage s out .length ≡ numberAndLength (imageReply s) out
   pub buffer-after : bufferAfter s out ≡ outAfter (imageReply s) out
 
-image-few : (s : State) (out : List ℕ) → writeImage s out .refusal ≤ 255
+image-number-is-byte : (s : State) (out : List ℕ) → writeImage s out .refusal ≤ 255
 unfolding every
-image-few s out = listed-most (accepted ∷ writeNumbers) 255 (writeImage s out .refusal) refl (write-listed s out)
+image-number-is-byte s out = listed-most (accepted ∷ writeNumbers) 255 (writeImage s out .refusal) refl (write-listed s out)
 
 image-refused : (s : State) → rules s ≡ false → imageReply s ≡ refuses (stateRefusal s)
 unfolding imageReply
@@ -170,7 +171,7 @@ image-replies s out = go (rules s) refl
         let w = writes-broken s out h in
         record {
           length-at-most = rw (← (w .0)) (omega arith);
-          number-is-byte = image-few s out;
+          number-is-byte = image-number-is-byte s out;
           answer = rw (← (w .0), image-refused s h) refl;
           buffer-after = rw (← (w .1), image-refused s h) refl;
         }
@@ -181,7 +182,7 @@ image-replies s out = go (rules s) refl
               let t = lt-ltb (length out) (length (image s)) l in
               record {
                 length-at-most = rw (← (w .0)) (omega arith);
-                number-is-byte = image-few s out;
+                number-is-byte = image-number-is-byte s out;
                 answer = rw (← (w .0), image-given s h, t) refl;
                 buffer-after = rw (← (w .1), image-given s h, t) refl;
               }
@@ -191,7 +192,7 @@ image-replies s out = go (rules s) refl
               let t = le-ltb (length out) (length (image s)) k in
               record {
                 length-at-most = rw (← (w .0)) (image-most s h);
-                number-is-byte = image-few s out;
+                number-is-byte = image-number-is-byte s out;
                 answer = rw (← (w .0), image-given s h, t) refl;
                 buffer-after = rw (← (w .1), image-given s h, t) refl;
               }

@@ -41,7 +41,7 @@ by-bytes : (n a b c : ℕ) → a ≡ n / 256 → b ≡ a / 256 → c ≡ b / 256
     → n % 256 + 256 * (a % 256) + 65536 * (b % 256) + 16777216 * (c % 256) ≡ n
 by-bytes n a b c h k m l = omega arith
 
--- a number below 2 to the 32 comes back; every number of a verdict is below it (verdicts/specs/VerdictLaws.antt, verdict-small)
+-- a number below 2 to the 32 comes back; every number of a verdict is below it (verdicts/specs/VerdictTheorems.antt, verdict-small)
 pub number-back : (n : ℕ) → n < 4294967296 → numberOf (numberBytes n) ≡ n
 unfolding numberBytes
 number-back n h =

@@ -2,11 +2,11 @@
 -- other: the first part that differs decides, and what stands behind it does not count. Assumes nothing.
 --
 --   compareNumbers x y                   two numbers compared
---   andThen a b                          the answer a where it decides, else b
+--   thenCompare a b                      the answer a where it decides, else b
 --   decides a                            whether the answer a is not equal
 --   compareBytes xs ys                   two lists compared from the front
 --   decisionBelow n c                    the first of the answers c 0 to c (n - 1) that decides, or equal
---   first-stands, next-stands            what andThen is where code finds that the first answer decides, or does not
+--   first-stands, next-stands            what thenCompare is where code finds that the first answer decides, or does not
 --   then-both                            where two answers together are equal, each is
 --   decision-none .. decision-passed     the turns of a loop that stops at the first answer that decides
 --   numbers-less .. equal-numbers        what compareNumbers says
@@ -39,10 +39,10 @@ unfoldable pub compareNumbers : ℕ → ℕ → Comparison
 compareNumbers x y = cond (ltb x y) Less (cond (ltb y x) Greater Equal)
 
 -- the first answer where it decides, else the second
-unfoldable pub andThen : Comparison → Comparison → Comparison
-andThen Less o = Less
-andThen Equal o = o
-andThen Greater o = Greater
+unfoldable pub thenCompare : Comparison → Comparison → Comparison
+thenCompare Less o = Less
+thenCompare Equal o = o
+thenCompare Greater o = Greater
 
 -- the answer decides: it is not equal
 unfoldable pub decides : Comparison → Bool
@@ -55,44 +55,44 @@ unfoldable pub compareBytes : List ℕ → List ℕ → Comparison
 compareBytes [] [] = Equal
 compareBytes [] (y ∷ ys) = Less
 compareBytes (x ∷ xs) [] = Greater
-compareBytes (x ∷ xs) (y ∷ ys) = andThen (compareNumbers x y) (compareBytes xs ys)
+compareBytes (x ∷ xs) (y ∷ ys) = thenCompare (compareNumbers x y) (compareBytes xs ys)
 
 -- the first of n answers that decides; equal where none does
 unfoldable pub decisionBelow : ℕ → (ℕ → Comparison) → Comparison
 decisionBelow zero c = Equal
-decisionBelow (suc n) c = andThen (decisionBelow n c) (c n)
+decisionBelow (suc n) c = thenCompare (decisionBelow n c) (c n)
 
 -- ---- laws of answers
-then-equal : (a : Comparison) → andThen a Equal ≡ a
-unfolding andThen
+then-equal : (a : Comparison) → thenCompare a Equal ≡ a
+unfolding thenCompare
 then-equal Less = refl
 then-equal Equal = refl
 then-equal Greater = refl
 
-then-then : (a b c : Comparison) → andThen (andThen a b) c ≡ andThen a (andThen b c)
-unfolding andThen
+then-then : (a b c : Comparison) → thenCompare (thenCompare a b) c ≡ thenCompare a (thenCompare b c)
+unfolding thenCompare
 then-then Less b c = refl
 then-then Equal b c = refl
 then-then Greater b c = refl
 
 -- an answer that decides stands, whatever comes behind it; after one that does not, the next one stands
-then-decided : (a b : Comparison) → decides a ≡ true → a ≡ andThen a b
-unfolding andThen decides
+then-decided : (a b : Comparison) → decides a ≡ true → a ≡ thenCompare a b
+unfolding thenCompare decides
 then-decided Less b h = refl
 then-decided Equal b h = absurd (true-false (sym h))
 then-decided Greater b h = refl
 
-then-next : (a b : Comparison) → decides a ≡ false → b ≡ andThen a b
-unfolding andThen decides
+then-next : (a b : Comparison) → decides a ≡ false → b ≡ thenCompare a b
+unfolding thenCompare decides
 then-next Less b h = absurd (true-false h)
 then-next Equal b h = refl
 then-next Greater b h = absurd (true-false h)
 
 -- as code finds it: first is the answer a, and d whether it decides
-pub first-stands : {first a : Comparison} {d : Bool} (b : Comparison) → first ≡ a → d ≡ decides first → d ≡ true → first ≡ andThen a b
+pub first-stands : {first a : Comparison} {d : Bool} (b : Comparison) → first ≡ a → d ≡ decides first → d ≡ true → first ≡ thenCompare a b
 first-stands {first} {a} b e k h = e ∙ then-decided a b (ap decides (sym e) ∙ sym k ∙ h)
 
-pub next-stands : {first a next b : Comparison} {d : Bool} → first ≡ a → d ≡ decides first → d ≡ false → next ≡ b → next ≡ andThen a b
+pub next-stands : {first a next b : Comparison} {d : Bool} → first ≡ a → d ≡ decides first → d ≡ false → next ≡ b → next ≡ thenCompare a b
 next-stands {first} {a} {next} {b} e k h q = q ∙ then-next a b (ap decides (sym e) ∙ sym k ∙ h)
 
 -- an answer that does not decide is equal
@@ -103,8 +103,8 @@ undecided Equal h = refl
 undecided Greater h = absurd (true-false h)
 
 -- where two answers together are equal, each is
-pub then-both : (a b : Comparison) → andThen a b ≡ Equal → (a ≡ Equal) × (b ≡ Equal)
-unfolding andThen decides
+pub then-both : (a b : Comparison) → thenCompare a b ≡ Equal → (a ≡ Equal) × (b ≡ Equal)
+unfolding thenCompare decides
 then-both Less b h = absurd (true-false (ap decides h))
 then-both Equal b h = (refl, h)
 then-both Greater b h = absurd (true-false (ap decides h))
@@ -115,11 +115,11 @@ unfolding decisionBelow
 decision-none c = refl
 
 decision-more : (n : ℕ) (c : ℕ → Comparison) → decisionBelow n c ≡ Equal → decides (c n) ≡ false → decisionBelow (n + 1) c ≡ Equal
-unfolding decisionBelow andThen
+unfolding decisionBelow thenCompare
 decision-more n c h k = rw (add-one n, h) (undecided (c n) k)
 
 decision-here : (n i : ℕ) (c : ℕ → Comparison) → i < n → decisionBelow i c ≡ Equal → decides (c i) ≡ true → c i ≡ decisionBelow n c
-unfolding decisionBelow andThen
+unfolding decisionBelow thenCompare
 decision-here zero i c l h k = absurd (omega arith)
 decision-here (suc n) i c l h k =
     elim (ℕ-discrete i n) [
@@ -170,7 +170,7 @@ equal-numbers x y e =
 -- ---- parts
 -- xs and ys begin two lists with this answer: whatever comes behind them counts only where the answer is equal
 pub record Begin (xs ys : List ℕ) (o : Comparison) : Type 0 where
-  pub before : (us vs : List ℕ) → compareBytes (xs ++ us) (ys ++ vs) ≡ andThen o (compareBytes us vs)
+  pub before : (us vs : List ℕ) → compareBytes (xs ++ us) (ys ++ vs) ≡ thenCompare o (compareBytes us vs)
 
 -- with nothing behind them it is the answer of the two
 pub begin-whole : (xs ys : List ℕ) (o : Comparison) → Begin xs ys o → compareBytes xs ys ≡ o
@@ -179,38 +179,38 @@ begin-whole xs ys o b =
     ap₂ compareBytes (sym (append-nil xs)) (sym (append-nil ys)) ∙ b .before [] [] ∙ then-equal o
 
 begin-none : Begin [] [] Equal
-unfolding andThen
+unfolding thenCompare
 begin-none = record { before = λ us vs. refl }
 
-begin-next : (x y : ℕ) (xs ys : List ℕ) (o : Comparison) → Begin xs ys o → Begin (x ∷ xs) (y ∷ ys) (andThen (compareNumbers x y) o)
+begin-next : (x y : ℕ) (xs ys : List ℕ) (o : Comparison) → Begin xs ys o → Begin (x ∷ xs) (y ∷ ys) (thenCompare (compareNumbers x y) o)
 unfolding compareBytes
 begin-next x y xs ys o b =
     record {
-      before = λ us vs. ap (andThen (compareNumbers x y)) (b .before us vs) ∙ sym (then-then (compareNumbers x y) o (compareBytes us vs));
+      before = λ us vs. ap (thenCompare (compareNumbers x y)) (b .before us vs) ∙ sym (then-then (compareNumbers x y) o (compareBytes us vs));
     }
 
 -- equal parts
 pub begin-same : (xs : List ℕ) → Begin xs xs Equal
 begin-same [] = begin-none
 begin-same (x ∷ xs) =
-    subst (Begin (x ∷ xs) (x ∷ xs)) (ap (λ (a : Comparison). andThen a Equal) (numbers-equal x x refl) ∙ then-equal Equal)
+    subst (Begin (x ∷ xs) (x ∷ xs)) (ap (λ (a : Comparison). thenCompare a Equal) (numbers-equal x x refl) ∙ then-equal Equal)
     (begin-next x x xs xs Equal (begin-same xs))
 
 -- one number, and two
 pub begin-one : (x y : ℕ) → Begin (x ∷ []) (y ∷ []) (compareNumbers x y)
 begin-one x y = subst (Begin (x ∷ []) (y ∷ [])) (then-equal (compareNumbers x y)) (begin-next x y [] [] Equal begin-none)
 
-pub begin-two : (x y z w : ℕ) → Begin (x ∷ y ∷ []) (z ∷ w ∷ []) (andThen (compareNumbers x z) (compareNumbers y w))
+pub begin-two : (x y z w : ℕ) → Begin (x ∷ y ∷ []) (z ∷ w ∷ []) (thenCompare (compareNumbers x z) (compareNumbers y w))
 begin-two x y z w = begin-next x z (y ∷ []) (w ∷ []) (compareNumbers y w) (begin-one y w)
 
 -- a part and the next; where the first decides, nothing need be known of the next, whose lengths may differ
-then-behind : (a b o next : Comparison) → (a ≡ Equal → next ≡ andThen b o) → andThen a next ≡ andThen (andThen a b) o
-unfolding andThen
+then-behind : (a b o next : Comparison) → (a ≡ Equal → next ≡ thenCompare b o) → thenCompare a next ≡ thenCompare (thenCompare a b) o
+unfolding thenCompare
 then-behind Less b o next h = refl
 then-behind Equal b o next h = h refl
 then-behind Greater b o next h = refl
 
-pub begin-then : (xs ys us vs : List ℕ) (a b : Comparison) → Begin xs ys a → (a ≡ Equal → Begin us vs b) → Begin (xs ++ us) (ys ++ vs) (andThen a b)
+pub begin-then : (xs ys us vs : List ℕ) (a b : Comparison) → Begin xs ys a → (a ≡ Equal → Begin us vs b) → Begin (xs ++ us) (ys ++ vs) (thenCompare a b)
 begin-then xs ys us vs a b p q =
     record {
       before =
@@ -237,15 +237,15 @@ isLess Greater = false
 
 -- less exactly where the first comes before the second
 pub precedes-compare : (xs ys : List ℕ) → precedes xs ys ≡ isLess (compareBytes xs ys)
-unfolding precedes compareBytes isLess andThen
+unfolding precedes compareBytes isLess thenCompare
 precedes-compare [] [] = refl
 precedes-compare [] (y ∷ ys) = refl
 precedes-compare (x ∷ xs) [] = refl
 precedes-compare (x ∷ xs) (y ∷ ys) =
     numbers-cases x y
-    (λ l. first-less x y xs ys l ∙ ap (λ a. isLess (andThen a (compareBytes xs ys))) (sym (numbers-less x y l)))
-    (λ e. first-equal x y xs ys e ∙ precedes-compare xs ys ∙ ap (λ a. isLess (andThen a (compareBytes xs ys))) (sym (numbers-equal x y e)))
-    (λ l. first-greater x y xs ys l ∙ ap (λ a. isLess (andThen a (compareBytes xs ys))) (sym (numbers-greater x y l)))
+    (λ l. first-less x y xs ys l ∙ ap (λ a. isLess (thenCompare a (compareBytes xs ys))) (sym (numbers-less x y l)))
+    (λ e. first-equal x y xs ys e ∙ precedes-compare xs ys ∙ ap (λ a. isLess (thenCompare a (compareBytes xs ys))) (sym (numbers-equal x y e)))
+    (λ l. first-greater x y xs ys l ∙ ap (λ a. isLess (thenCompare a (compareBytes xs ys))) (sym (numbers-greater x y l)))
 
 -- the answer of the two the other way round
 opposite : Comparison → Comparison
@@ -253,8 +253,8 @@ opposite Less = Greater
 opposite Equal = Equal
 opposite Greater = Less
 
-opposite-then : (a b : Comparison) → opposite (andThen a b) ≡ andThen (opposite a) (opposite b)
-unfolding opposite andThen
+opposite-then : (a b : Comparison) → opposite (thenCompare a b) ≡ thenCompare (opposite a) (opposite b)
+unfolding opposite thenCompare
 opposite-then Less b = refl
 opposite-then Equal b = refl
 opposite-then Greater b = refl
@@ -271,7 +271,7 @@ opposite-compare [] [] = refl
 opposite-compare [] (y ∷ ys) = refl
 opposite-compare (x ∷ xs) [] = refl
 opposite-compare (x ∷ xs) (y ∷ ys) =
-    ap₂ andThen (opposite-numbers x y) (opposite-compare xs ys) ∙ sym (opposite-then (compareNumbers x y) (compareBytes xs ys))
+    ap₂ thenCompare (opposite-numbers x y) (opposite-compare xs ys) ∙ sym (opposite-then (compareNumbers x y) (compareBytes xs ys))
 
 less-of : (o : Comparison) → isLess o ≡ true → o ≡ Less
 unfolding isLess

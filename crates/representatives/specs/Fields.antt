@@ -3,7 +3,7 @@
 --
 --   compareTwo x y z w                    x and then y compared with z and then w
 --   compareRecords r t                    two records: id, epoch
---   compareLogs a b                       the logs of two replicas, record by record
+--   compareLogs a b                       the logs of two replicas, record by record up to the end of the first
 --   compareNamed p q l isr m other        leader l and isr by the names of p with leader m and other by those of q
 --   compareHeads p q a b                  two replicas without their logs
 --   compareReplicas p q a b               two replicas
@@ -49,13 +49,13 @@ use Rattle.renamings.specs.TidyRenamed.{tidy-renamed}
 use Rattle.renamings.specs.RenameTheorems.{renamed-meets-rules}
 use Rattle.representatives.specs.declared.compare.Comparison.{Comparison}
 use Rattle.representatives.specs.declared.compare.Comparison.the-variants.{Less, Equal, Greater}
-use Rattle.representatives.specs.Comparison.{compareNumbers, andThen, compareBytes, decisionBelow, then-both, equal-numbers, Begin, begin-whole, begin-same, begin-one, begin-two, begin-then, begin-concat, isLess, precedes-compare, says-less, says-equal, says-greater}
+use Rattle.representatives.specs.Comparison.{compareNumbers, thenCompare, compareBytes, decisionBelow, then-both, equal-numbers, Begin, begin-whole, begin-same, begin-one, begin-two, begin-then, begin-concat, isLess, precedes-compare, says-less, says-equal, says-greater}
 use Rattle.representatives.specs.Representative.{imageUnder}
 
 -- ---- the fields of two renamings, in the order of an image
 -- two numbers each, one after the other
 abbrev pub compareTwo : ℕ → ℕ → ℕ → ℕ → Comparison
-compareTwo x y z w = andThen (compareNumbers x z) (compareNumbers y w)
+compareTwo x y z w = thenCompare (compareNumbers x z) (compareNumbers y w)
 
 -- records: id, epoch
 abbrev pub compareRecords : Record → Record → Comparison
@@ -77,13 +77,13 @@ module _ (p q : List ℕ) where
   -- replicas up to their logs: hw, epoch, leader, ISR, end
   unfoldable pub compareHeads : Replica → Replica → Comparison
   compareHeads a b =
-      andThen (compareTwo (a .hw) (epochByte (a .epoch)) (b .hw) (epochByte (b .epoch)))
-      (andThen (compareNamed (a .leader) (a .isr) (b .leader) (b .isr))
+      thenCompare (compareTwo (a .hw) (epochByte (a .epoch)) (b .hw) (epochByte (b .epoch)))
+      (thenCompare (compareNamed (a .leader) (a .isr) (b .leader) (b .isr))
       (compareNumbers (a .end) (b .end)))
 
   -- replicas: the head, then the log
   unfoldable pub compareReplicas : Replica → Replica → Comparison
-  compareReplicas a b = andThen (compareHeads a b) (compareLogs a b)
+  compareReplicas a b = thenCompare (compareHeads a b) (compareLogs a b)
 
   -- the replicas that p and q name j
   abbrev pub compareReplicasAt : List Replica → ℕ → Comparison
@@ -104,8 +104,8 @@ compareAllReplicas s p q = decisionBelow (replicaCount (s .limits)) (compareRepl
 -- the state under p with the state under q: the quorum, the requests, the replicas. All else is the same in both.
 unfoldable pub compareUnder : State → List ℕ → List ℕ → Comparison
 compareUnder s p q =
-    andThen (compareNamed p q (s .quorum .leader) (s .quorum .isr) (s .quorum .leader) (s .quorum .isr))
-    (andThen (compareAllRequests s p q) (compareAllReplicas s p q))
+    thenCompare (compareNamed p q (s .quorum .leader) (s .quorum .isr) (s .quorum .leader) (s .quorum .isr))
+    (thenCompare (compareAllRequests s p q) (compareAllReplicas s p q))
 
 -- ---- each part of the two images begins with the answer of its fields
 module _ (p q : List ℕ) where
@@ -169,7 +169,7 @@ module _ (s : State) where
 
   header-begin : (p q : List ℕ)
       → Begin (headerBytes (asRenamed p)) (headerBytes (asRenamed q)) (compareNamed p q (s .quorum .leader) (s .quorum .isr) (s .quorum .leader) (s .quorum .isr))
-  unfolding firstEight andThen
+  unfolding firstEight thenCompare
   header-begin p q =
       begin-then firstEight firstEight _ _ Equal _ (begin-same firstEight)
       (λ e. named-begin p q (s .quorum .leader) (s .quorum .leader) (s .quorum .isr) (s .quorum .isr))

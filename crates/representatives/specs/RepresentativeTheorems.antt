@@ -63,8 +63,8 @@ module _ (s : State) (h : rules s ≡ true) where
 image-one-to-one : (s t : State) → Met s → Met t → image s ≡ image t → s ≡ t
 image-one-to-one s t m k e = sym (m .tidy) ∙ same-iff-tidy s t .0 (image-iff s t (m .rules) (k .rules) .0 e) ∙ k .tidy
 
-renamed-met : (s : State) (p : List ℕ) → Met s → Renames s p → Met (renamed p s)
-renamed-met s p m f = record { rules = renamed-meets-rules s (m .rules) p f; tidy = renamed-is-tidy s (m .rules) p f }
+renamed-is-met : (s : State) (p : List ℕ) → Met s → Renames s p → Met (renamed p s)
+renamed-is-met s p m f = record { rules = renamed-meets-rules s (m .rules) p f; tidy = renamed-is-tidy s (m .rules) p f }
 
 renamed-again : (s : State) (p q : List ℕ) → Met s → Renames s p → Renames (renamed p s) q
     → (r : List ℕ) × Renames s r × (renamed r s ≡ renamed q (renamed p s))
@@ -86,7 +86,7 @@ renamed-undone s p m f = (
 tidy-representatives : (s t : State) → Met s → Met t
     → representative s ≡ representative t ↔ ((p : List ℕ) × Renames s p × (renamed p s ≡ t))
 tidy-representatives =
-    same-representative Met Renames renamed image representative renamed-met renamed-again renamed-undone image-one-to-one
+    same-representative Met Renames renamed image representative renamed-is-met renamed-again renamed-undone image-one-to-one
     (λ s m. is-renamed s (m .rules)) (λ s p m f. has-least-image s (m .rules) p f)
 
 -- the representative looks at no unused room

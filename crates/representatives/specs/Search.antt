@@ -21,7 +21,7 @@ use Rattle.renamings.specs.Rename.{renameLeader, Renames}
 use Rattle.renamings.specs.Rows.{renamingOf, first-row}
 use Rattle.renamings.specs.Fitting.{fittingRows, factorial, fittingRow, behindGroup, fitting-count, fitting-at, fitting-fits, fitting-first, fitting-one, behind-bounds, group-alike}
 use Rattle.representatives.specs.declared.compare.Comparison.the-variants.{Greater}
-use Rattle.representatives.specs.Comparison.{andThen, isLess, numbers-greater}
+use Rattle.representatives.specs.Comparison.{thenCompare, isLess, numbers-greater}
 use Rattle.representatives.specs.Fields.{compareNamed, compareUnder, precedes-under}
 use Rattle.representatives.specs.Representative.{imageUnder, leastRenaming}
 
@@ -92,7 +92,7 @@ leaderUnder s p = leaderByte (renameLeader (newName p) (s .quorum .leader))
 
 leader-loses : (s : State) → rules s ≡ true → (p q : List ℕ) → Renames s p → Renames s q → leaderUnder s q < leaderUnder s p
     → precedes (imageUnder s p) (imageUnder s q) ≡ false
-unfolding compareUnder compareNamed andThen isLess
+unfolding compareUnder compareNamed thenCompare isLess
 leader-loses s h p q f g l =
     let e : compareUnder s p q ≡ Greater = rw (numbers-greater (leaderUnder s p) (leaderUnder s q) l) refl in
     precedes-under s h p q f g ∙ ap isLess e

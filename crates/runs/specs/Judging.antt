@@ -1,4 +1,5 @@
--- What is counted as a run is judged record by record, and the laws that it becomes the verdict of the whole run. Assumes nothing.
+-- What is counted as the run records of a run are judged one by one, and the laws that it becomes the verdict of the whole run.
+-- Assumes nothing.
 --
 --   failedAt known holds count          when a property first failed: `known`; where that is 0, `count` if it fails now, else 0
 --   tallyAfter tally step               what is counted after one accepted step more
@@ -6,16 +7,17 @@
 --   tally-more                          tallyAfter gives the tally of the steps with one step more
 --   KnownOfState tally s                what the tally says of the state s that the run has reached
 --   Narrowed tally quorum next action   what it says of the next state: there the narrow test decides what has not failed
---   known-begun, narrowed               KnownOfState holds of a first state, and gives Narrowed of the next one
+--   known-begun, narrowed               KnownOfState holds of a first state of which both properties hold, and gives Narrowed of
+--                                       the next one
 --   known-after                         and it holds of the state that a step hands back
 --   failed-before .. failed-now         what failedAt is, case by case
 --   verdictAt tally number at last      the verdict where the run stops
 --   resumed tally s trace               the verdict where it goes on from s with a trace
---   runRecordHere run at                the record that starts at a byte of the run
+--   runRecordHere run at                the run record that starts at a byte of the run
 --   traceHere s at run                  the trace from the state s and that byte on
 --   fromHere tally s at run             the verdict from there on, with what is counted so far
---   here-begun, here-end                fromHere at the first record, and at the run's end
---   here-refused, here-on               fromHere at a record that is refused, and at one that is accepted
+--   here-begun, here-end                fromHere at the first run record, and at the run's end
+--   here-refused, here-on               fromHere at a run record that is refused, and at one that is accepted
 use Prim.Native.Nat.{ℕ, zero, suc, _+_, _≤_, _<_, max}
 use mathlib.Core.Path.{_≡_, refl, sym, ap, ap₂, _∙_}
 use mathlib.Core.Bool.{Bool, true, false}
@@ -178,7 +180,7 @@ module _ (known : ℕ) (holds : Bool) (count : ℕ) where
   unfolding failedAt
   failed-now h e = rw (h, e)
 
--- ---- the verdict from here: of what is counted so far, the state, the byte where the next record starts, and what follows
+-- ---- the verdict from here: of what is counted so far, the state, the byte where the next run record starts, and what follows
 -- where the run stops
 abbrev pub verdictAt : (tally : Tally) (number at : ℕ) (last : State) → Verdict
 verdictAt tally number at last = record { tally = tally; refusal = number; at = at; state = last }
@@ -196,7 +198,7 @@ tally-steps first (step ∷ rest) done =
     ∙ tally-steps first rest (done ++ step ∷ [])
     ∙ ap (λ (tally : Tally). foldl tallyAfter tally rest) (tally-more first done step)
 
--- the record at a place of the run, and the trace from there on
+-- the run record at a place of the run, and the trace from there on
 abbrev pub runRecordHere : List ℕ → ℕ → List ℕ
 runRecordHere run at = take runRecordWidth (drop at run)
 
@@ -206,7 +208,7 @@ traceHere s at run = traceFrom s at (pieces runRecordWidth (drop at run))
 abbrev pub fromHere : Tally → State → ℕ → List ℕ → Verdict
 fromHere tally s at run = resumed tally s (traceHere s at run)
 
--- at the first record it is the verdict of the run
+-- at the first run record it is the verdict of the run
 pub here-begun : (s : State) (run : List ℕ)
     → verdictFrom s (traceFrom s configurationWidth (runRecordsOf run)) ≡ fromHere (tallyOf s []) s configurationWidth run
 here-begun s run =
@@ -221,7 +223,7 @@ module _ (tally : Tally) (s : State) (at : ℕ) (run : List ℕ) where
       let none : length (drop at run) ≤ 0 = rw length-drop (omega arith) in
       ap (λ (l : List (List ℕ)). resumed tally s (traceFrom s at l)) (sym (pieces-none runRecordWidth (drop at run) none))
 
-  -- where bytes are left: the next record, and then the rest
+  -- where bytes are left: the next run record, and then the rest
   trace-more : at < length run
       → traceHere s at run
       ≡ traceBy at (stepOn s (runRecordHere run at))
@@ -229,7 +231,7 @@ module _ (tally : Tally) (s : State) (at : ℕ) (run : List ℕ) where
   unfolding traceFrom
   trace-more h = ap (traceFrom s at) (pieces-more 5 (drop at run) (rw length-drop (omega arith)))
 
-  -- a record that is refused
+  -- a run record that is refused
   pub here-refused : at < length run → (actOn s (runRecordHere run at) .refusal ≡ accepted → ⊥)
       → verdictAt tally (actOn s (runRecordHere run at) .refusal) at s ≡ fromHere tally s at run
   unfolding lastOf

@@ -3,18 +3,18 @@
 -- 22, then the action's number. Each record is judged on its own part of the input. .. It stops at the first refusal. The first
 -- action takes the configuration's fresh state, each later one the state that the one before handed back". Assumes nothing.
 --
---   configurationWidth, runRecordWidth   how many bytes the configuration and the record of an action have: six each
+--   configurationWidth, runRecordWidth   how many bytes the configuration and the run record of an action have: six each
 --   longestRun                           65,532, the most bytes that a run may have
 --   configurationMark, actionMark        the second byte of each mark
 --   markRefusal mark bytes               20 where the bytes have another mark, else 0
 --   runRecordRefusal width mark bytes    21 where there are fewer bytes than `width`, then markRefusal
 --   configure bytes                      what a configuration answers: its fresh state, or a refusal and zeros
---   actionIn bytes                       the action of a record
---   actOn s bytes                        what the record of an action answers on the state s
+--   actionIn bytes                       the action of a run record
+--   actOn s bytes                        what the run record of an action answers on the state s
 --   configurationOf run                  the bytes of the run's configuration
---   runRecordsOf run                     the records behind it
+--   runRecordsOf run                     the run records behind it
 --   opening run                          what the length and the configuration of the run answer
---   Step, stepOn s bytes                 a record on the state s: its action and its answer
+--   Step, stepOn s bytes                 a run record on the state s: its action and its answer
 --   statesIn steps                       the states that steps hand back
 --   Trace, traceFrom s at records        the accepted steps from s on, the refusal or 0, and the byte where the run stops
 --   tallyOf first steps                  what is counted over steps from a first state on
@@ -46,7 +46,7 @@ use Rattle.questions.specs.Exposed.{exposed}
 use Rattle.runs.specs.declared.Tally.{Tally}
 use Rattle.runs.specs.declared.Verdict.{Verdict}
 
--- "records of six bytes": the configuration, and each record of an action
+-- "records of six bytes": the configuration, and each run record of an action
 abbrev pub configurationWidth : ℕ
 configurationWidth = 6
 
@@ -64,12 +64,12 @@ configurationMark = 67
 abbrev pub actionMark : ℕ
 actionMark = 65
 
--- ---- a record of a run
+-- ---- a run record
 -- "mark 20"
 unfoldable pub markRefusal : (mark : ℕ) → List ℕ → ℕ
 markRefusal mark bytes = refuse (not (marked mark bytes)) wrongMark accepted
 
--- "fewer than six bytes 21 .., mark 20", by the width and the mark that the record has
+-- "fewer than six bytes 21 .., mark 20", by the width and the mark that the run record has
 unfoldable pub runRecordRefusal : (width mark : ℕ) → List ℕ → ℕ
 runRecordRefusal width mark bytes = refuse (ltb (length bytes) width) tooShort (markRefusal mark bytes)
 
@@ -90,7 +90,7 @@ actOn s bytes = byRefusal (runRecordRefusal runRecordWidth actionMark bytes) (re
 abbrev pub configurationOf : List ℕ → List ℕ
 configurationOf run = take configurationWidth run
 
--- its records behind the configuration; the last may have fewer than six bytes
+-- its run records behind the configuration; the last may have fewer than six bytes
 abbrev pub runRecordsOf : List ℕ → List (List ℕ)
 runRecordsOf run = pieces runRecordWidth (drop configurationWidth run)
 
@@ -103,12 +103,12 @@ unfoldable pub opening : List ℕ → Outcome
 opening run = byRefusal (lengthRefusal run) withZeros (configure (configurationOf run))
 
 -- ---- how far a run goes
--- a record on a state: its action, and what it answers there
+-- a run record on a state: its action, and what it answers there
 pub record Step : Type 0 where
   pub action : Action
   pub answer : ActionAnswer
 
--- what a record makes of a state
+-- what a run record makes of a state
 abbrev pub stepOn : State → List ℕ → Step
 stepOn s bytes = record { action = actionIn bytes; answer = actOn s bytes }
 
@@ -119,7 +119,7 @@ handedBack step = step .answer .state
 abbrev pub statesIn : List Step → List State
 statesIn steps = map handedBack steps
 
--- the accepted records, in order; the refusal, or 0; the byte where the refused record starts, or where the run ends
+-- the accepted run records, in order; the refusal, or 0; the byte where the refused run record starts, or where the run ends
 pub record Trace : Type 0 where
   pub steps : List Step
   pub refusal : ℕ
@@ -133,11 +133,11 @@ stopped at number = record { steps = []; refusal = number; at = at }
 abbrev pub stepThen : Step → Trace → Trace
 stepThen step rest = record { steps = step ∷ rest .steps; refusal = rest .refusal; at = rest .at }
 
--- by the answer of the record at byte `at`: accepted, its step and then the rest; refused, the end
+-- by the answer of the run record at byte `at`: accepted, its step and then the rest; refused, the end
 unfoldable pub traceBy : ℕ → Step → Trace → Trace
 traceBy at step rest = byRefusal (step .answer .refusal) (stopped at) (stepThen step rest)
 
--- from the state s on, with the next record at byte `at`
+-- from the state s on, with the next run record at byte `at`
 unfoldable pub traceFrom : State → ℕ → List (List ℕ) → Trace
 traceFrom s at [] = stopped at accepted
 traceFrom s at (bytes ∷ records) =

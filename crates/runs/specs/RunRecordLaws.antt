@@ -1,4 +1,4 @@
--- What a record of a run answers, by its length and its mark, and what it keeps of the state before it. Assumes nothing.
+-- What a run record answers, by its length and its mark, and what it keeps of the state before it. Assumes nothing.
 use Prim.Native.Nat.{ℕ, zero, suc, _≤_, _<_}
 use mathlib.Core.Path.{_≡_, refl, sym, ap, ap₂, _∙_, subst}
 use mathlib.Core.Bool.{true, false, not}
@@ -20,7 +20,7 @@ use Rattle.actions.specs.Kept.{Kept, kept-same, step-kept, step-is-act}
 use Rattle.runs.specs.declared.run_record.ActionRecord.{ActionRecord}
 use Rattle.runs.specs.Run.{runRecordWidth, actionMark, markRefusal, runRecordRefusal, actionIn, actOn}
 
--- ---- the number of a record's mark, and that of its length and its mark
+-- ---- the number of a run record's mark, and that of its length and its mark
 module _ (mark : ℕ) (bytes : List ℕ) where
   pub mark-wrong : marked mark bytes ≡ false → wrongMark ≡ markRefusal mark bytes
   unfolding markRefusal
@@ -44,7 +44,7 @@ module _ (mark : ℕ) (bytes : List ℕ) where
     unfolding runRecordRefusal
     run-record-long h = refuse-no _ tooShort (markRefusal mark bytes) (le-ltb (length bytes) width h)
 
-    -- it is 0 exactly where the record has its bytes and its mark
+    -- it is 0 exactly where the run record has its bytes and its mark
     pub run-record-whole : runRecordRefusal width mark bytes ≡ accepted ↔ (width ≤ length bytes) × (marked mark bytes ≡ true)
     unfolding runRecordRefusal
     run-record-whole = (
@@ -54,7 +54,7 @@ module _ (mark : ℕ) (bytes : List ℕ) where
       (λ p. sym (run-record-long (p .0)) ∙ sym (mark-right (p .1))),
     )
 
--- ---- the record of an action
+-- ---- the run record of an action
 -- as it is read: the number of its mark, and the action
 abbrev pub readAction : List ℕ → ActionRecord
 readAction bytes = record { refusal = markRefusal actionMark bytes; action = actionIn bytes }
@@ -71,12 +71,12 @@ module _ (s : State) (bytes : List ℕ) where
   unfolding actOn
   unread torn = sym (by-refused _ (refusedOn s) (act s (actionIn bytes)) torn)
 
-  -- so the number is the record's own, and then the action's
+  -- so the number is the run record's own, and then the action's
   pub run-record-number : firstRefusal (runRecordRefusal runRecordWidth actionMark bytes) (act s (actionIn bytes) .refusal) ≡ actOn s bytes .refusal
   unfolding actOn
   run-record-number = by-first (λ (a : ActionAnswer). a .refusal) _ (refusedOn s) (act s (actionIn bytes)) (λ k. refl)
 
-  -- it is 21 where the record is too short
+  -- it is 21 where the run record is too short
   pub short-number : length bytes < runRecordWidth → tooShort ≡ actOn s bytes .refusal
   short-number h =
       let e = run-record-short actionMark bytes runRecordWidth h in
@@ -97,13 +97,13 @@ module _ (s : State) (bytes : List ℕ) (h : rules s ≡ true) (t : tidy s ≡ s
   act-number-is =
       ap (λ (a : ActionAnswer). a .refusal) (sym (step-is-act s (actionIn bytes) h t)) ∙ answer-number _ s (effect s (actionIn bytes))
 
-  -- the number of a record that has its bytes, from what is read of it
+  -- the number of a run record that has its bytes, from what is read of it
   pub read-number : runRecordWidth ≤ length bytes
       → firstRefusal (readAction bytes .refusal) (actionRefusal s (readAction bytes .action)) ≡ actOn s bytes .refusal
   read-number long =
       ap₂ firstRefusal (run-record-long actionMark bytes runRecordWidth long) (sym act-number-is) ∙ run-record-number s bytes
 
-  -- an accepted one: its action is accepted, and the effect of that is the state that the record hands back
+  -- an accepted one: its action is accepted, and the effect of that is the state that the run record hands back
   pub accepted-number : actOn s bytes .refusal ≡ accepted → actionRefusal s (actionIn bytes) ≡ accepted
   accepted-number ok = sym act-number-is ∙ ap (λ (a : ActionAnswer). a .refusal) (sym (accepted-acts s bytes ok)) ∙ ok
 

@@ -12,7 +12,7 @@ use Rattle.actions.specs.Kept.{Kept, kept-after}
 use Rattle.runs.specs.Run.{actOn, Step, stepOn, handedBack, statesIn, Trace, stopped, stepThen, traceBy, traceFrom, lastOf}
 use Rattle.runs.specs.RunRecordLaws.{act-on-kept}
 
--- ---- by the answer of the first record
+-- ---- by the answer of the first run record
 module _ (at : ℕ) (step : Step) (rest : Trace) where
   pub trace-accepted : step .answer .refusal ≡ accepted → traceBy at step rest ≡ stepThen step rest
   unfolding traceBy
@@ -29,7 +29,7 @@ module _ (at : ℕ) (step : Step) (rest : Trace) where
   trace-cases P = by-either P (step .answer .refusal) (stopped at) (stepThen step rest)
 
 -- ---- what a trace keeps
--- a record hands back a state that keeps what s has, where the state before it does
+-- a run record hands back a state that keeps what s has, where the state before it does
 pub kept-on : (s t : State) (bytes : List ℕ) → Kept s t → Kept s (actOn t bytes .state)
 kept-on s t bytes k = kept-after s t (actOn t bytes .state) k (act-on-kept t bytes (k .rules) (k .tidy))
 

@@ -1,4 +1,4 @@
-// Judges a run: a configuration of six bytes, and then records of six bytes, each of an action.
+// Judges a run: a configuration of six bytes, and then run records of six bytes, each of an action.
 mod judging;
 mod run_record;
 
@@ -14,7 +14,7 @@ use parts::refusal::ACCEPTED;
 use parts::refusal::RUN_TOO_LONG;
 use parts::refusal::TOO_SHORT;
 
-// How many bytes the configuration has, and how many the record of an action.
+// How many bytes the configuration has, and how many the run record of an action.
 const CONFIGURATION_WIDTH: usize = 6;
 
 const RUN_RECORD_WIDTH: usize = 6;
@@ -31,9 +31,9 @@ pub struct Tally {
     pub exposed: u8,
 }
 
-// The verdict of a run: what is counted over it; the refusal, or 0; the byte where the refused record starts, the length of the run
-// where none is refused, 0 where the run is too long; the last state. Where no configuration was accepted, nothing is counted, and
-// the state is all zeros.
+// The verdict of a run: what is counted over it; the refusal, or 0; the byte where the refused run record starts, the length of the
+// run where none is refused, 0 where the run is too long; the last state. Where no configuration was accepted, nothing is counted,
+// and the state is all zeros.
 pub struct Verdict {
     pub tally: Tally,
     pub refusal: u8,
@@ -59,9 +59,9 @@ pub fn judge(run: &[u8]) -> Verdict
 }
 
 // The verdict from the configuration's fresh state on. The caller shows that the run is neither too long nor too short, that the
-// state meets the rules and is tidy, and that weak and strong ISR hold of it. Each record goes to its reader as its own part of the
-// run; the rules are not tested and no room is tidied again, since an accepted action keeps both; weak and strong ISR are asked only
-// of what the action can have changed, and what is exposed only after kinds 2 and 7.
+// state meets the rules and is tidy, and that weak and strong ISR hold of it. Each run record goes to its reader as its own part of
+// the run; the rules are not tested and no room is tidied again, since an accepted action keeps both; weak and strong ISR are asked
+// only of what the action can have changed, and what is exposed only after kinds 2 and 7.
 fn judge_actions(run: &[u8], fresh: State) -> Verdict
     requires { ⌜ length (now run) ≤ longestRun ⌝ }
     requires { ⌜ configurationWidth ≤ length (now run) ⌝ }

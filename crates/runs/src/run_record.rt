@@ -1,4 +1,4 @@
-// The readers of a run's records. Each takes the bytes of its record as a part of the run; its caller shows that all are there.
+// The readers of run records. Each takes the bytes of its run record as a part of the run; its caller shows that all are there.
 ghost use mathlib.Core.Path.{_≡_};
 ghost use mathlib.Core.Bool.{true};
 ghost use Prim.Native.Nat.{_≤_};
@@ -21,7 +21,7 @@ const CONFIGURATION_MARK: u8 = 67;
 
 const ACTION_MARK: u8 = 65;
 
-// The refusal of a record by its mark: 20, or 0. The caller shows that the mark's two bytes are there.
+// The refusal of a run record by its mark: 20, or 0. The caller shows that the mark's two bytes are there.
 fn mark_refusal(bytes: &[u8], second: u8) -> u8
     requires { ⌜ 2 ≤ length (now bytes) ⌝ }
     ensures { λ r. ⌜ r ≡ markRefusal second (now (bytes .entry)) ⌝ }
@@ -48,13 +48,13 @@ pub(crate) fn configure(bytes: &[u8]) -> Outcome
     State::fresh(cluster::limits_at(bytes, mark::WIDTH))
 }
 
-// The record of an action, as it is read: the number of its mark, 20 or 0, and the action.
+// The run record of an action, as it is read: the number of its mark, 20 or 0, and the action.
 pub(crate) struct ActionRecord {
     pub(crate) refusal: u8,
     pub(crate) action: Action,
 }
 
-// Reads the record of an action. The four bytes behind the mark are the action, whatever the mark is.
+// Reads the run record of an action. The four bytes behind the mark are the action, whatever the mark is.
 pub(crate) fn read_action(bytes: &[u8]) -> ActionRecord
     requires { ⌜ length (now bytes) ≡ runRecordWidth ⌝ }
     ensures { λ r. ⌜ r ≡ readAction (now (bytes .entry)) ⌝ }
@@ -71,8 +71,8 @@ pub(crate) fn read_action(bytes: &[u8]) -> ActionRecord
 }
 
 impl ActionRecord {
-    // The refusal of the record, 2 to 20, or 0, on a state that is known to meet the rules and to be tidy: neither is tested. The
-    // caller shows both.
+    // The refusal of the run record, 2 to 20, or 0, on a state that is known to meet the rules and to be tidy: neither is tested.
+    // The caller shows both.
     pub(crate) fn refusal_on(self, s: State) -> u8
         requires { ⌜ rules s ≡ true ⌝ }
         requires { ⌜ tidy s ≡ s ⌝ }

@@ -1,9 +1,9 @@
 -- The marked examples 1 to 9, each on the verdict of a run of bytes, computed from the definitions together. Assumes nothing.
 --
 --   configuration R L M X           the six bytes of a configuration
---   action kind a b e               the six bytes of the record of an action
---   shrink a .. replicateFrom a b   such records of the kinds 0 to 4, 7 and 8
---   verdict records                 the verdict of the run of these records
+--   action kind a b e               the six bytes of the run record of an action
+--   shrink a .. replicateFrom a b   such run records of the kinds 0 to 4, 7 and 8
+--   verdict records                 the verdict of the run that these run records make
 --   numbers records                 its six numbers: accepted, refusal, at, weak, strong, exposed
 --   paperRun                        the run of example 1
 --   exchanged s                     s with the blocks of replicas 1 and 2 exchanged
@@ -23,7 +23,7 @@ use Rattle.parts.specs.declared.Leader.the-variants.{None}
 use Rattle.parts.specs.Mark.{markFirst, marked}
 use Rattle.parts.specs.Isr.{member, fullIsr, isrBelow, isrOf, without, noOther, isAlone}
 use Rattle.parts.specs.Epoch.{sameEpoch, higherEpoch, lastEpoch, epochUsed}
-use Rattle.parts.specs.Leader.{sameLeader, leaderBelow, leaderInIsr}
+use Rattle.parts.specs.Leader.{sameLeader, leaderBelow, leaderNoneOrInIsr}
 use Rattle.replica.specs.Replica.{tidyReplica}
 use Rattle.replica.specs.Change.{withHw, withEnd, withRequest, append, truncateTo, truncateUnder, becomeFollowerAndTruncateTo}
 use Rattle.replica.specs.Log.{recordInUse, logInUse, recordsAgree, recordAgrees, logsAgree, sameRecord, holdSameRecord}
@@ -31,7 +31,7 @@ use Rattle.cluster.specs.declared.State.{State}
 use Rattle.cluster.specs.State.{replicaAt, withReplicas, withReplica, withNextRecordId, controllerUpdateIsr, tidy}
 use Rattle.cluster.specs.Rules.{between, inRange, rule1, leaderAndIsrInRange, replicaInRange, rule2, quorumMatchesRequest, rule3, rule4, replicaMatchesRequest, replicaMeetsS5, rule5, rule6, agreesWithAll, rule7, brokenRule, ruleRefusal, stateRefusal}
 use Rattle.cluster.specs.Fresh.{freshState, limitsRefusal, fresh}
-use Rattle.cluster.specs.Actions.{replicaPresumesLeadership, replicaIsFollowing, epochsUsedUp, requestMissing, epochNotAbove, controllerShrinkIsrRefusal, shrinkBy, controllerShrinkIsr, controllerElectLeaderRefusal, controllerElectLeader, leaderRefusal, becomeLeaderRefusal, leadBy, becomeLeader, becomeFollowerRefusal, becomeFollower, becomeFollowerAndTruncateToHw, leaderWriteRefusal, leaderWrite, memberHasHw, leaderIncHighWatermarkRefusal, leaderIncHighWatermark, followerReplicateRefusal, followerReplicate}
+use Rattle.cluster.specs.Actions.{replicaPresumesLeadership, replicaIsFollowing, epochsUsedUp, requestMissing, epochNotAbove, controllerShrinkIsrRefusal, shrinkBy, controllerShrinkIsr, controllerElectLeaderRefusal, controllerElectLeader, leaderRefusal, becomeLeaderRefusal, leadBy, becomeLeader, becomeFollowerRefusal, becomeFollowerAt, becomeFollowerAndTruncateToHw, leaderWriteRefusal, leaderWrite, memberHasHw, leaderIncHighWatermarkRefusal, leaderIncHighWatermark, followerReplicateRefusal, followerReplicate}
 use Rattle.cluster.specs.Act.{kindOf, uses, operandBound, operandBounds, operandsFit, tableRefusal, tableEffect, actionRefusal, effect, answerBy, refusal, act}
 use Rattle.questions.specs.Isr.{isrAsked, offsetsAsked, differAt, smallestFailure, isrAnswerOf, checkIsr, askIsr}
 use Rattle.questions.specs.Exposed.{exposed}
@@ -41,7 +41,7 @@ use Rattle.representatives.specs.RepresentativeExample.{example-representative}
 use Rattle.runs.specs.declared.Verdict.{Verdict}
 use Rattle.runs.specs.Run.{configurationMark, actionMark, markRefusal, runRecordRefusal, configure, actOn, lengthRefusal, opening, traceBy, traceFrom, lastOf, judgeBy, judge}
 
--- ---- the records of the examples, in their words
+-- ---- the run records of the examples, in their words
 -- "4B 43, R, L, M, X"
 abbrev pub configuration : ℕ → ℕ → ℕ → ℕ → List ℕ
 configuration R L M X = markFirst ∷ configurationMark ∷ R ∷ L ∷ M ∷ X ∷ []
@@ -73,7 +73,7 @@ advance a = action 7 a 0 0
 abbrev pub replicateFrom : ℕ → ℕ → List ℕ
 replicateFrom a b = action 8 a b 0
 
--- ---- a run of such records
+-- ---- a run of such run records
 -- the verdict of their bytes
 abbrev pub verdict : List (List ℕ) → Verdict
 verdict records = judge (flatten records)
@@ -141,13 +141,13 @@ unfolding judge judgeBy lastOf traceFrom traceBy opening lengthRefusal actOn con
     paperReplica exposed askIsr checkIsr isrAnswerOf smallestFailure differAt offsetsAsked isrAsked fresh limitsRefusal
     freshState act refusal answerBy effect actionRefusal tableEffect tableRefusal operandsFit operandBounds operandBound uses
     kindOf followerReplicate followerReplicateRefusal leaderIncHighWatermark leaderIncHighWatermarkRefusal memberHasHw
-    leaderWrite leaderWriteRefusal becomeFollowerAndTruncateToHw becomeFollower becomeFollowerRefusal becomeLeader leadBy
+    leaderWrite leaderWriteRefusal becomeFollowerAndTruncateToHw becomeFollowerAt becomeFollowerRefusal becomeLeader leadBy
     becomeLeaderRefusal leaderRefusal controllerElectLeader controllerElectLeaderRefusal controllerShrinkIsr shrinkBy
     controllerShrinkIsrRefusal epochNotAbove requestMissing epochsUsedUp replicaIsFollowing replicaPresumesLeadership
     stateRefusal ruleRefusal brokenRule rule7 agreesWithAll rule6 rule5 replicaMeetsS5 replicaMatchesRequest rule4 rule3
     quorumMatchesRequest rule2 replicaInRange leaderAndIsrInRange rule1 inRange between tidy controllerUpdateIsr
     withNextRecordId withReplica holdSameRecord sameRecord logsAgree recordAgrees recordsAgree logInUse recordInUse
-    becomeFollowerAndTruncateTo truncateUnder truncateTo append withRequest withEnd withHw tidyReplica leaderInIsr leaderBelow
+    becomeFollowerAndTruncateTo truncateUnder truncateTo append withRequest withEnd withHw tidyReplica leaderNoneOrInIsr leaderBelow
     sameLeader epochUsed lastEpoch higherEpoch sameEpoch isAlone noOther without isrOf isrBelow fullIsr member marked flatten
     pieces piecesUpTo firstTriple firstSecond firstThird passing firstBelow orElse greatestOf greatestBelow refuse firstRefusal
     byRefusal table tableFrom firstFailing every allBelow

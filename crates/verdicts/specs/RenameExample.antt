@@ -1,5 +1,5 @@
 -- A run with its two replicas exchanged, computed on the definitions. The theorem on renamed runs speaks of verdicts, and bytes
--- behind a refused record change no verdict: which of them are renamed is shown here. Assumes nothing.
+-- behind a refused run record change no verdict: which of them are renamed is shown here. Assumes nothing.
 use Prim.Native.Nat.{ℕ}
 use mathlib.Core.Path.{_≡_, refl}
 use mathlib.Core.List.{List, [], _∷_, flatten}
@@ -21,7 +21,7 @@ use Rattle.verdicts.specs.Examples.{configuration, action, elect, leader
 abbrev exchange : List ℕ
 exchange = 1 ∷ 0 ∷ 2 ∷ 3 ∷ 4 ∷ []
 
--- six bytes with another mark, and the first five bytes of a record
+-- six bytes with another mark, and the first five bytes of a run record
 abbrev unmarked : List ℕ
 unmarked = 0 ∷ 1 ∷ 0 ∷ 1 ∷ 0 ∷ 1 ∷ []
 

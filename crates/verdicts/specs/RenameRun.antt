@@ -16,12 +16,12 @@ use Rattle.runs.specs.Run.{runRecordWidth, actionMark, runRecordRefusal, action
 use Rattle.renamings.specs.Names.{newName, isRenaming}
 use Rattle.renamings.specs.Rename.{renameAction, renamed}
 
--- ---- a record
--- the bytes of the record of an action, with the operands a and b of another action, which are bytes 3 and 4
+-- ---- a run record
+-- the bytes of the run record of an action, with the operands a and b of another action, which are bytes 3 and 4
 abbrev pub withOperands : List ℕ → Action → List ℕ
 withOperands bytes action = set (set bytes 3 (action .a)) 4 (action .b)
 
--- a record of n replicas: where it is whole, used replica operands below n are renamed; any other stays
+-- a run record of n replicas: where it is whole, used replica operands below n are renamed; any other stays
 unfoldable pub renameRunRecord : ℕ → (ℕ → ℕ) → List ℕ → List ℕ
 renameRunRecord n to bytes =
     byRefusal (runRecordRefusal runRecordWidth actionMark bytes) (λ number. bytes) (withOperands bytes (renameAction n to (actionIn bytes)))
@@ -31,12 +31,12 @@ renameRunRecord n to bytes =
 abbrev pub replicasOf : List ℕ → ℕ
 replicasOf run = replicaCount (opening run .state .limits)
 
--- its records, renamed
+-- its run records, renamed
 abbrev pub renamedRunRecords : List ℕ → List ℕ → List (List ℕ)
 renamedRunRecords p run = map (renameRunRecord (replicasOf run) (newName p)) (runRecordsOf run)
 
--- the run under the five places p: the configuration stays, and behind it are the records, renamed; where the configuration is not
--- accepted, the run stays
+-- the run under the five places p: the configuration stays, and behind it are the run records, renamed; where the configuration is
+-- not accepted, the run stays
 unfoldable pub renameRun : List ℕ → List ℕ → List ℕ
 renameRun p run = byRefusal (opening run .refusal) (λ number. run) (configurationOf run ++ flatten (renamedRunRecords p run))
 

@@ -1,26 +1,27 @@
--- What a run is: by which number its length and its configuration refuse it; where they do not, its accepted records, from the
--- first on, are accepted actions from the fresh state, so its states are a finite behaviour of the published model, and each
--- record's own action joins two of them; it ends with its last record, or at a record that is refused; where that has six bytes
--- and the mark, the model does not allow its action. Assumes nothing.
+-- What a run is: by which number its length and its configuration refuse it; where they do not, its accepted run records, from the
+-- first on, are accepted actions from the fresh state, so its states are a finite behaviour of the published model, and each run
+-- record's own action joins two of them; it ends with its last run record, or at a run record that is refused; where that has six
+-- bytes and the mark, the model does not allow its action. From steps-are on it is of runs whose configuration is accepted. Assumes
+-- nothing.
 --
---   Whole bytes                   these are a record of an action, with its six bytes and the mark
+--   Whole bytes                   these are a run record of an action, with its six bytes and the mark
 --   stepsAfter s actions          the steps of actions one after another, from s on
 --   opening-is                    by which number a run does not open, on its own bytes
 --   opens-fresh, opens-with       it opens with the fresh state of R, L, M and X, which are its bytes 2 to 5
---   runRecordAt run k             record k behind the configuration, the first with number 0
---   acceptedActions run           the actions of its accepted records
---   nextRunRecord run             the record behind the accepted ones
+--   runRecordAt run k             run record k behind the configuration, the first with number 0
+--   acceptedActions run           the actions of its accepted run records
+--   nextRunRecord run             the run record behind the accepted ones
 --   statesOf run, stateAt run n   its states, the first one with number 0; the state of number n
 --   constantsIn run               the published constants, as its configuration has them
---   Joins run k                   record k is six bytes of the run with the action mark, its action joins the states k and k + 1
+--   Joins run k                   run record k is six bytes of the run with the action mark, its action joins states k and k + 1
 --   steps-are, states-are         its steps and its states are those of its accepted actions
 --   state-kept, last-kept         each of its states meets S1 to S7, is tidy, and has the limits of the first
 --   run-is-behaviour              its states are a finite behaviour of the published model
---   run-record-joins              Joins holds of every accepted record
+--   run-record-joins              Joins holds of every accepted run record
 --   last-state, reached           the verdict's state is the last of its states
---   at-behind                     it stops behind the bytes of its accepted records
---   all-accepted, next-refused    not refused, it has accepted every record; refused, its next record answers the refusal
---   refused-not-allowed           the model does not allow the action of a refused record that has six bytes and the mark
+--   at-behind                     it stops behind the bytes of its accepted run records
+--   all-accepted, next-refused    not refused, it has accepted every run record; refused, its next run record answers the refusal
+--   refused-not-allowed           the model does not allow the action of a refused run record that has six bytes and the mark
 use Prim.Native.Nat.{ℕ, zero, suc, _+_, _*_, _≤_, _<_}
 use mathlib.Core.Path.{_≡_, refl, sym, ap, ap₂, _∙_}
 use mathlib.Core.Bool.{Bool, true, false, not}
@@ -60,12 +61,12 @@ use Rattle.runs.specs.RunRecordLaws.{run-record-whole, whole-acts, accepted-who
 use Rattle.runs.specs.TraceLaws.{trace-cases, trace-kept, last-each}
 use Rattle.runs.specs.Opening.{limitsIn, firstState, traceOf, opening-number, opening-fresh, fresh-opened, opening-state, opening-limits, opening-rules, opening-tidy, opened}
 
--- ---- how far a list of records goes
--- the actions of the first n records
+-- ---- how far a list of run records goes
+-- the actions of the first n run records
 abbrev actionsOf : ℕ → List (List ℕ) → List Action
 actionsOf n records = map actionIn (take n records)
 
--- the record is one of an action, with its six bytes and the mark
+-- the run record is one of an action, with its six bytes and the mark
 abbrev pub Whole : List ℕ → Type 0
 Whole bytes = runRecordRefusal runRecordWidth actionMark bytes ≡ accepted
 
@@ -79,7 +80,7 @@ unfolding stepsAfter statesAfter
 steps-states s [] = refl
 steps-states s (x ∷ xs) = ap (λ (l : List State). act s x .state ∷ l) (steps-states (act s x .state) xs)
 
--- what holds of the trace t of the records from s on, the first at byte `from`
+-- what holds of the trace t of the run records from s on, the first at byte `from`
 record Traced (s : State) (from : ℕ) (records : List (List ℕ)) (t : Trace) : Type 0 where
   few : length (t .steps) ≤ length records
   whole-each : Each Whole (take (length (t .steps)) records)
@@ -91,7 +92,7 @@ record Traced (s : State) (from : ℕ) (records : List (List ℕ)) (t : Trace) :
       → (length (t .steps) < length records)
       × (actOn (lastOf s (statesIn (t .steps))) (getD records (length (t .steps)) []) .refusal ≡ t .refusal)
 
--- a record first, and t behind it
+-- a run record first, and t behind it
 traced-by : (s : State) (from : ℕ) (bytes : List ℕ) (records : List (List ℕ)) (t : Trace)
     → Traced (actOn s bytes .state) (from + length bytes) records t
     → Traced s from (bytes ∷ records) (traceBy from (stepOn s bytes) t)
@@ -121,7 +122,7 @@ traced-by s from bytes records t r =
       refused = λ h. (omega arith, refl);
     })
 
--- so it holds of the trace of any records
+-- so it holds of the trace of any run records
 traced : (s : State) (from : ℕ) (records : List (List ℕ)) → Traced s from records (traceFrom s from records)
 unfolding traceFrom stepsAfter flatten
 traced s from [] =
@@ -219,15 +220,15 @@ module _ (run : List ℕ) where
   opens-with ok = rw (opening-limits run ok) (byte-in 2 (omega arith), byte-in 3 (omega arith), byte-in 4 (omega arith), byte-in 5 (omega arith))
 
 -- ---- what a run does
--- record k behind the configuration, the first with number 0
+-- run record k behind the configuration, the first with number 0
 abbrev pub runRecordAt : List ℕ → ℕ → List ℕ
 runRecordAt run k = getD (runRecordsOf run) k []
 
--- the actions of its accepted records: as many as the verdict says, from the first on
+-- the actions of its accepted run records: as many as the verdict says, from the first on
 abbrev pub acceptedActions : List ℕ → List Action
 acceptedActions run = map actionIn (take (judge run .tally .accepted) (runRecordsOf run))
 
--- the record behind them
+-- the run record behind them
 abbrev pub nextRunRecord : List ℕ → List ℕ
 nextRunRecord run = runRecordAt run (judge run .tally .accepted)
 
@@ -243,8 +244,7 @@ stateAt run n = getD (statesOf run) n zeroState
 abbrev pub constantsIn : List ℕ → Constants
 constantsIn run = constantsOf (firstState run .limits)
 
--- what record k of the run is and does: it is six bytes of the run, with the action mark, and its action joins the states k and
--- k + 1
+-- what run record k is and does: it is six bytes of the run, with the action mark, and its action joins the states k and k + 1
 pub record Joins (run : List ℕ) (k : ℕ) : Type 0 where
   pub bytes : runRecordAt run k ≡ take runRecordWidth (drop (configurationWidth + runRecordWidth * k) run)
   pub six : length (runRecordAt run k) ≡ runRecordWidth
@@ -257,7 +257,7 @@ module _ (run : List ℕ) (ok : opening run .refusal ≡ accepted) where
   run-traced = traced (firstState run) configurationWidth (runRecordsOf run)
 
   -- ---- its steps and its states
-  -- no more actions are accepted than there are records
+  -- no more actions are accepted than there are run records
   pub accepted-few : judge run .tally .accepted ≤ length (runRecordsOf run)
   accepted-few = rw (opened run ok) (run-traced .few)
 
@@ -267,7 +267,7 @@ module _ (run : List ℕ) (ok : opening run .refusal ≡ accepted) where
   pub actions-accepted : AllAccepted (firstState run) (acceptedActions run)
   actions-accepted = rw (opened run ok) (run-traced .actions)
 
-  -- its steps have the actions of its accepted records, and what these answer one after another from the first state on
+  -- its steps have the actions of its accepted run records, and what these answer one after another from the first state on
   pub steps-are : traceOf run .steps ≡ stepsAfter (firstState run) (acceptedActions run)
   steps-are = rw (opened run ok) (run-traced .steps)
 
@@ -302,14 +302,14 @@ module _ (run : List ℕ) (ok : opening run .refusal ≡ accepted) where
       let b = sequence-is-behaviour (limitsIn run) (fresh-opened run ok) (acceptedActions run) in
       rw (opening-limits run ok) ((rw (← opening-fresh run ok) at b) actions-accepted)
 
-  -- ---- each accepted record: its own action joins two of them
+  -- ---- each accepted run record: its own action joins two of them
   -- its action, by number
   action-at : (k : ℕ) → k < judge run .tally .accepted → getD (acceptedActions run) k (actionIn []) ≡ actionIn (runRecordAt run k)
   action-at k h =
       List·getD-map actionIn (take (judge run .tally .accepted) (runRecordsOf run)) k []
       ∙ ap actionIn (getD-take (judge run .tally .accepted) (runRecordsOf run) k [] h)
 
-  -- the record is whole
+  -- the run record is whole
   whole-at : (k : ℕ) → k < judge run .tally .accepted → Whole (runRecordAt run k)
   whole-at k h =
       let first : List (List ℕ) = take (judge run .tally .accepted) (runRecordsOf run) in
@@ -350,15 +350,15 @@ module _ (run : List ℕ) (ok : opening run .refusal ≡ accepted) where
   pub last-kept : Kept (firstState run) (judge run .state)
   last-kept = rw (opened run ok) (last-each (Kept (firstState run)) (firstState run) (statesIn (traceOf run .steps)) kept-first kept-each)
 
-  -- the byte where it stops is behind those of the accepted records
+  -- the byte where it stops is behind those of the accepted run records
   pub at-behind : judge run .at ≡ configurationWidth + length (flatten (take (judge run .tally .accepted) (runRecordsOf run)))
   at-behind = rw (opened run ok) (run-traced .at)
 
-  -- not refused, it has accepted every record
+  -- not refused, it has accepted every run record
   pub all-accepted : judge run .refusal ≡ accepted → judge run .tally .accepted ≡ length (runRecordsOf run)
   all-accepted h = rw (opened run ok) (run-traced .all-taken (rw (opened run ok) at h))
 
-  -- refused, there is a next record, whose answer on the last state is the refusal
+  -- refused, there is a next run record, whose answer on the last state is the refusal
   pub next-refused : (judge run .refusal ≡ accepted → ⊥)
       → (judge run .tally .accepted < length (runRecordsOf run)) × (actOn (judge run .state) (nextRunRecord run) .refusal ≡ judge run .refusal)
   next-refused h = rw (opened run ok) (run-traced .refused (rw (opened run ok) at h))

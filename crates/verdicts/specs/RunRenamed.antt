@@ -4,7 +4,7 @@
 --   run-behind, run-stays   the renamed run where the configuration is accepted; any other run stays
 --   run-length              a renamed run is as long
 --   configuration-renamed   where its configuration is accepted, it is the run's
---   run-records-renamed     and its records are the run's, renamed
+--   run-records-renamed     and its run records are the run's, renamed
 --   opening-renamed         its length and its configuration answer what the run's do
 --   run-renamed             demand 3 of runs: the verdict of the renamed run is the renamed verdict
 --   run-bytes               a renamed run of bytes is a run of bytes
@@ -43,7 +43,7 @@ module _ (run p : List ℕ) where
   abbrev rename : List ℕ → List ℕ
   rename = renameRunRecord (replicasOf run) (newName p)
 
-  -- where the configuration is accepted, that stays and each record behind it is renamed; any other run stays
+  -- where the configuration is accepted, that stays and each run record behind it is renamed; any other run stays
   run-behind : opening run .refusal ≡ accepted → renameRun p run ≡ configurationOf run ++ flatten (renamedRunRecords p run)
   unfolding renameRun
   run-behind ok = sym (by-accepted _ (λ number. run) (configurationOf run ++ flatten (renamedRunRecords p run)) ok)
@@ -65,7 +65,7 @@ module _ (run p : List ℕ) where
       ∙ ap length (take-append-drop configurationWidth run))
       (λ h. refl)
 
-  -- where it is accepted: its configuration and its records
+  -- where it is accepted: its configuration and its run records
   module _ (ok : opening run .refusal ≡ accepted) where
     configuration-renamed : configurationOf (renameRun p run) ≡ configurationOf run
     configuration-renamed =

@@ -1,12 +1,13 @@
--- The records of a run under a renaming, and the verdict from a state on: the renamed records on the renamed state are accepted
--- and refused as the records on the state are, and every state on the way is the renamed one. Assumes nothing.
+-- Run records under a renaming, and the verdict from a tidy state that meets the rules on: the renamed run records on the renamed
+-- state are accepted and refused as the others on the state are, and every state on the way is the renamed one. Assumes nothing.
 --
---   operands-length .. operands-action   a record with other operands: its length, its other bytes, its refusal, its action
---   whole-renamed, other-stays           a whole record renamed has other operands; any other record stays
---   run-record-length                    a renamed record is as long
---   act-on-renamed                       on the renamed state it gets the renamed answer
---   action-renamed                       the action of a renamed whole record is the renamed action
---   trace-renamed                        the renamed records on the renamed state have the renamed trace
+--   operands-length .. operands-action   a run record with other operands: its length, its other bytes, its refusal, its action
+--   whole-renamed, other-stays           a whole run record renamed has other operands; any other stays
+--   run-record-length                    a renamed run record is as long
+--   act-on-renamed                       on a renamed state, of one that meets the rules, it gets the renamed answer
+--   action-renamed                       the action of a renamed whole run record is the renamed action
+--   trace-renamed                        from a tidy state that meets the rules on, renamed run records on the renamed state have
+--                                        the renamed trace
 --   verdict-renamed                      and the renamed verdict
 use Prim.Native.Nat.{ℕ, _+_, _≤_}
 use mathlib.Core.Path.{_≡_, refl, sym, ap, ap₂, _∙_}
@@ -39,7 +40,7 @@ use Rattle.renamings.specs.Rename.{renameAction, renamed, Renames}
 use Rattle.renamings.specs.RenameTheorems.{renamed-act, renamed-holds, renamed-exposed}
 use Rattle.verdicts.specs.RenameRun.{withOperands, renameRunRecord, renameAnswer, renameStep, renameTrace, renameVerdict}
 
--- ---- a record
+-- ---- a run record
 module _ (bytes : List ℕ) (action : Action) where
   -- with other operands it is as long, and its other bytes stay
   operands-length : length (withOperands bytes action) ≡ length bytes
@@ -66,7 +67,7 @@ module _ (bytes : List ℕ) (action : Action) where
       )
 
 module _ (n : ℕ) (to : ℕ → ℕ) (bytes : List ℕ) where
-  -- a renamed record: of a whole one, and of any other
+  -- a renamed run record: of a whole one, and of any other
   pub whole-renamed : runRecordRefusal runRecordWidth actionMark bytes ≡ accepted
       → renameRunRecord n to bytes ≡ withOperands bytes (renameAction n to (actionIn bytes))
   unfolding renameRunRecord
@@ -84,7 +85,7 @@ module _ (n : ℕ) (to : ℕ → ℕ) (bytes : List ℕ) where
       (withOperands bytes (renameAction n to (actionIn bytes)))
       (λ e. operands-length bytes (renameAction n to (actionIn bytes))) (λ e. refl)
 
--- a renamed record on the renamed state: the renamed answer
+-- a renamed run record on the renamed state: the renamed answer
 act-on-renamed : (s : State) → rules s ≡ true → (p : List ℕ) → Renames s p → (bytes : List ℕ)
     → actOn (renamed p s) (renameRunRecord (replicaCount (s .limits)) (newName p) bytes) ≡ renameAnswer p (actOn s bytes)
 unfolding renameAction
@@ -102,7 +103,7 @@ act-on-renamed s h p f bytes =
           ∙ ap (renameAnswer p) (sym (unread s bytes e))
     ]
 
--- the action of a renamed whole record is the renamed action
+-- the action of a renamed whole run record is the renamed action
 action-renamed : (n : ℕ) (to : ℕ → ℕ) (bytes : List ℕ) → runRecordRefusal runRecordWidth actionMark bytes ≡ accepted
     → actionIn (renameRunRecord n to bytes) ≡ renameAction n to (actionIn bytes)
 unfolding renameAction
@@ -148,7 +149,7 @@ module _ (s : State) (p : List ℕ) (f : Renames s p) where
   renames-on : (t : State) → Kept s t → Renames t p
   renames-on t k = ap (λ (c : Limits). isRenaming (replicaCount c) p) (k .limits) ∙ f
 
-  -- a renamed record on the renamed state gets the renamed answer
+  -- a renamed run record on the renamed state gets the renamed answer
   renamed-on : (t : State) (bytes : List ℕ) → Kept s t → actOn (renamed p t) (rename bytes) ≡ renameAnswer p (actOn t bytes)
   renamed-on t bytes k =
       ap (λ (c : Limits). actOn (renamed p t) (renameRunRecord (replicaCount c) (newName p) bytes)) (sym (k .limits))
@@ -161,7 +162,7 @@ module _ (s : State) (p : List ℕ) (f : Renames s p) where
       ap₂ {C = Step} (λ (action : Action) (a : ActionAnswer). record { action = action; answer = a })
       (action-renamed n (newName p) bytes (accepted-whole t bytes ok)) (renamed-on t bytes k)
 
-  -- the renamed records on the renamed state have the renamed trace
+  -- the renamed run records on the renamed state have the renamed trace
   pub trace-renamed : (records : List (List ℕ)) (t : State) (at : ℕ) → Kept s t
       → traceFrom (renamed p t) at (map rename records) ≡ renameTrace n p (traceFrom t at records)
   unfolding traceFrom
@@ -188,7 +189,7 @@ module _ (s : State) (p : List ℕ) (f : Renames s p) where
         last-renamed p s states,
       )
 
-  -- so the renamed records on the renamed state have the renamed verdict
+  -- so the renamed run records on the renamed state have the renamed verdict
   pub verdict-renamed : rules s ≡ true → tidy s ≡ s → (at : ℕ) (records : List (List ℕ))
       → verdictFrom (renamed p s) (traceFrom (renamed p s) at (map rename records)) ≡ renameVerdict p (verdictFrom s (traceFrom s at records))
   verdict-renamed h t at records =

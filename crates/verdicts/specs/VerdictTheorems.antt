@@ -1,14 +1,15 @@
--- The verdict of a run: where it stops, which numbers refuse it, and the bounds of what is counted. Assumes nothing.
+-- The verdict of a run: where it stops, which numbers refuse it, and the bounds of what is counted. From at-within to refused-by
+-- it is of runs whose configuration is accepted. Assumes nothing.
 --
---   StopsAt run                        it stops at the record behind the accepted ones, on its own part of the input
+--   StopsAt run                        it stops at the run record behind the accepted ones, on its own part of the input
 --   at-within                          it stops inside the run or at its end
 --   refused-run-record                 StopsAt holds of a refused run
---   accepted-all                       a run is not refused exactly where all its records are accepted and it stops at its end
---   run-record-refused-by              the number of a record on a state: 21, then 20, then its action's
---   accepted-fills                     a run is not refused exactly where its accepted records fill it
---   refused-by                         a refused run has the number of its next record on its last state
+--   accepted-iff-all                   a run is not refused exactly where all its run records are accepted and it stops at its end
+--   run-record-refused-by              the number of a run record on a state: 21, then 20, then its action's
+--   accepted-fills                     a run is not refused exactly where its accepted run records fill it
+--   refused-by                         a refused run has the number of its next run record on its last state
 --   accepted-opened, accepted-at       a run that is not refused has an accepted configuration, and stops at its end
---   runRecordNumbers, openingNumbers   the numbers of a record's length and mark, and those before the first action
+--   runRecordNumbers, openingNumbers   the numbers of a run record's length and mark, and those before the first action
 --   runNumbers                         all numbers that refuse a run: 2 to 22 and 25
 --   run-listed                         no other number refuses a run
 --   mostActions                        10,921, the most actions that a run can hold
@@ -46,7 +47,7 @@ use Rattle.verdicts.specs.RunBehaviour.{nextRunRecord, stateAt, accepted
 use Rattle.verdicts.specs.RunProperties.{exposed-run-by}
 
 -- ---- where a run stops
--- refused: at the record behind the accepted ones, which starts inside the run and is judged on its own part of the input
+-- refused: at the run record behind the accepted ones, which starts inside the run and is judged on its own part of the input
 pub record StopsAt (run : List ℕ) : Type 0 where
   pub more : judge run .tally .accepted < length (runRecordsOf run)
   pub at : judge run .at ≡ configurationWidth + runRecordWidth * judge run .tally .accepted
@@ -55,7 +56,7 @@ pub record StopsAt (run : List ℕ) : Type 0 where
   pub answer : actOn (judge run .state) (nextRunRecord run) .refusal ≡ judge run .refusal
 
 module _ (run : List ℕ) (ok : opening run .refusal ≡ accepted) where
-  -- behind as many records as are accepted, but not behind the last byte
+  -- behind as many run records as are accepted, but not behind the last byte
   at-is : judge run .at ≡ configurationWidth + min (runRecordWidth * judge run .tally .accepted) (length run - configurationWidth)
   at-is =
       let n : ℕ = judge run .tally .accepted in
@@ -68,7 +69,7 @@ module _ (run : List ℕ) (ok : opening run .refusal ≡ accepted) where
   pub at-within : judge run .at ≤ length run
   at-within = omega (arith, at-is, opening-long run ok)
 
-  -- there are at most k records exactly where k records hold the bytes behind the configuration
+  -- there are at most k run records exactly where k run records hold the bytes behind the configuration
   run-records-few : (k : ℕ) → length (runRecordsOf run) ≤ k ↔ length run - configurationWidth ≤ runRecordWidth * k
   run-records-few k = rw (length-drop configurationWidth run) at (pieces-few 5 k (drop configurationWidth run))
 
@@ -87,9 +88,9 @@ module _ (run : List ℕ) (ok : opening run .refusal ≡ accepted) where
         answer = next .1;
       }
 
-  -- not refused exactly where every record is accepted, and then at the end of its bytes
-  pub accepted-all : judge run .refusal ≡ accepted ↔ (judge run .tally .accepted ≡ length (runRecordsOf run)) × (judge run .at ≡ length run)
-  accepted-all = (
+  -- not refused exactly where every run record is accepted, and then at the end of its bytes
+  pub accepted-iff-all : judge run .refusal ≡ accepted ↔ (judge run .tally .accepted ≡ length (runRecordsOf run)) × (judge run .at ≡ length run)
+  accepted-iff-all = (
     (λ h.
         let all = all-accepted run ok h in
         (all, omega (arith, at-is, run-records-few (judge run .tally .accepted) .0 (omega (arith, all)), opening-long run ok))),
@@ -108,7 +109,7 @@ marked-chain true unmarked rest = refl
 marked-chain false true rest = refl
 marked-chain false false rest = refl
 
--- a record on a state: "fewer than six bytes 21 .., mark 20, .. then the action's number"
+-- a run record on a state: "fewer than six bytes 21 .., mark 20, .. then the action's number"
 pub run-record-refused-by : (s : State) (bytes : List ℕ) → actOn s bytes .refusal
     ≡ refuse (ltb (length bytes) runRecordWidth) tooShort (refuse (not (marked actionMark bytes)) wrongMark (act s (actionIn bytes) .refusal))
 unfolding runRecordRefusal markRefusal
@@ -116,7 +117,7 @@ run-record-refused-by s bytes =
     sym (run-record-number s bytes) ∙ marked-chain (ltb (length bytes) runRecordWidth) (not (marked actionMark bytes)) (act s (actionIn bytes) .refusal)
 
 module _ (run : List ℕ) (ok : opening run .refusal ≡ accepted) where
-  -- the accepted records are in the run
+  -- the accepted run records are in the run
   run-records-within : (n : ℕ) → judge run .tally .accepted ≡ n → configurationWidth + runRecordWidth * n ≤ length run
   run-records-within zero e = omega (arith, opening-long run ok)
   run-records-within (suc k) e =
@@ -133,7 +134,7 @@ module _ (run : List ℕ) (ok : opening run .refusal ≡ accepted) where
   pub accepted-fills : judge run .refusal ≡ accepted ↔ length run ≡ configurationWidth + runRecordWidth * judge run .tally .accepted
   accepted-fills = (
     (λ h.
-        let w = accepted-all run ok .0 h in
+        let w = accepted-iff-all run ok .0 h in
         let f = pieces-few 5 (judge run .tally .accepted) (drop configurationWidth run) .0 (omega (arith, w .0)) in
         omega (arith, f, length-drop configurationWidth run, run-records-within (judge run .tally .accepted) refl)),
     (λ e.
@@ -143,7 +144,7 @@ module _ (run : List ℕ) (ok : opening run .refusal ≡ accepted) where
         ]),
   )
 
-  -- refused, it has the number of the next record on the last state
+  -- refused, it has the number of the next run record on the last state
   pub refused-by : (judge run .refusal ≡ accepted → ⊥)
       → judge run .refusal
       ≡ refuse (ltb (length (nextRunRecord run)) runRecordWidth) tooShort
@@ -160,10 +161,10 @@ accepted-opened run h =
     ]
 
 pub accepted-at : (run : List ℕ) → judge run .refusal ≡ accepted → judge run .at ≡ length run
-accepted-at run h = accepted-all run (accepted-opened run h) .0 h .1
+accepted-at run h = accepted-iff-all run (accepted-opened run h) .0 h .1
 
 -- ---- which numbers refuse a run
--- those of a record's length and mark, those before the first action, and all: 2 to 22 and 25
+-- those of a run record's length and mark, those before the first action, and all: 2 to 22 and 25
 abbrev pub runRecordNumbers : List ℕ
 runRecordNumbers = wrongMark ∷ tooShort ∷ []
 
@@ -177,7 +178,7 @@ pub run-numbers : runNumbers
     ≡ 2 ∷ 3 ∷ 4 ∷ 5 ∷ 6 ∷ 7 ∷ 8 ∷ 9 ∷ 10 ∷ 11 ∷ 12 ∷ 13 ∷ 14 ∷ 15 ∷ 16 ∷ 17 ∷ 18 ∷ 19 ∷ 20 ∷ 21 ∷ 22 ∷ 25 ∷ []
 run-numbers = refl
 
--- the number of a record's length and mark is one of them
+-- the number of a run record's length and mark is one of them
 run-record-listed : (l : List ℕ) (width mark : ℕ) (bytes : List ℕ) → every (map (listed l) (accepted ∷ runRecordNumbers)) ≡ true
     → listed l (runRecordRefusal width mark bytes) ≡ true
 unfolding runRecordRefusal markRefusal
@@ -194,7 +195,7 @@ opening-listed run =
     (listed-first all _ _ (run-record-listed all configurationWidth configurationMark (configurationOf run) refl)
     (listed-within (accepted ∷ freshNumbers) all (fresh (limitsIn run) .refusal) refl (fresh-listed (limitsIn run)))))
 
--- that of a record, on a state that meets the rules
+-- that of a run record, on a state that meets the rules
 act-on-listed : (s : State) → rules s ≡ true → (bytes : List ℕ) → listed (accepted ∷ runNumbers) (actOn s bytes .refusal) ≡ true
 unfolding listed every
 act-on-listed s h bytes =

@@ -23,8 +23,8 @@ mul-q c = search needs
 array-copy-out-q : tie.Need-array-copy-out-q Inv-loop μ-loop
 array-copy-out-q c = search needs
 
-in-isr-requires : tie.Need-in-isr-requires Inv-loop μ-loop
-in-isr-requires c κs = search needs
+none-or-in-isr-requires : tie.Need-none-or-in-isr-requires Inv-loop μ-loop
+none-or-in-isr-requires c κs = search needs
 
 add-e : tie.Need-add-e Inv-loop μ-loop
 add-e c = search needs
@@ -33,10 +33,10 @@ loop-less : tie.Need-loop-less Inv-loop μ-loop
 loop-less c = search needs
 
 loop-again : tie.Need-loop-again Inv-loop μ-loop
-loop-again c = (omega arith, all-more _ _ (c .before .before .before .before .loop .inv .1) (sym (c .before .in-isr .ensures) ∙ c .if1 .taken))
+loop-again c = (omega arith, all-more _ _ (c .before .before .before .before .loop .inv .1) (sym (c .before .none-or-in-isr .ensures) ∙ c .if1 .taken))
 
 returns : tie.Need-returns Inv-loop μ-loop
-returns c = let s = c .before .before .before .before .before .args in all-fails _ (c .before .before .before .before .loop .e) (requestLeaderInIsr (s .t1)) (omega arith) (sym (c .before .in-isr .ensures) ∙ c .if1 .left)
+returns c = let s = c .before .before .before .before .before .args in all-fails _ (c .before .before .before .before .loop .e) (requestLeaderInIsr (s .t1)) (omega arith) (sym (c .before .none-or-in-isr .ensures) ∙ c .if1 .left)
 
 returns-2 : tie.Need-returns-2 Inv-loop μ-loop
 returns-2 c = all-done _ _ _ (omega arith) (omega arith) (c .before .loop .inv .1)
@@ -50,7 +50,7 @@ request-leaders-in-isr-spec =
     loop-holds
     mul-q
     array-copy-out-q
-    in-isr-requires
+    none-or-in-isr-requires
     add-e
     loop-less
     loop-again

@@ -3,9 +3,9 @@ use mir.Val.{ofZ, toZ}
 use mir.Syntax.{w8}
 use borrow.Author.Needs.{needs}
 use Rattle.cluster.specs.State.{withReplica}
-use Rattle.cluster.specs.Actions.{becomeFollower}
-use Rattle.cluster.proofs.State.become_follower.Statement.{statement}
-use Rattle.cluster.proofs.State.become_follower.Tie as tie
+use Rattle.cluster.specs.Actions.{becomeFollowerAt}
+use Rattle.cluster.proofs.State.become_follower_at.Statement.{statement}
+use Rattle.cluster.proofs.State.become_follower_at.Tie as tie
 
 mul-q : tie.Need-mul-q
 mul-q c = search needs
@@ -32,13 +32,13 @@ element-set-from-following : tie.Need-element-set-from-following
 element-set-from-following c = search needs
 
 returns : tie.Need-returns
-unfolding becomeFollower withReplica
+unfolding becomeFollowerAt withReplica
 returns c =
     let e : toZ w8 (ofZ w8 (c .before .before .epoch-of .result)) ≡ c .before .before .epoch-of .result = search needs in
     rw (c .become-follower-and-truncate-to .ensures) (rw (e ∙ c .before .before .epoch-of .ensures))
 
-pub become-follower-spec : {M : Type 1} → statement M
-become-follower-spec =
+pub become-follower-at-spec : {M : Type 1} → statement M
+become-follower-at-spec =
     tie.close
     (tie.spec
     mul-q
