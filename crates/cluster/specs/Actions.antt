@@ -12,7 +12,7 @@
 --   controllerElectLeader s a             kind 1, elect: the effect, as in all that follow
 --   leaderRefusal, leadBy                 refusal and effect of kind 2 by the leader that the request names
 --   becomeLeader s e                      kind 2, become leader
---   becomeFollowerAt s a e offset         a takes request e; where that names a leader, a's log is cut to the offset
+--   becomeFollowerAt s a e offset         a takes request e; where that names a leader, a's log is cut to the offset; hw to at most it
 --   becomeFollowerAndTruncateToHw s a e   kind 3, become follower: the offset is a's hw. The refusal is becomeFollowerRefusal
 --   nextRecord s a, leaderWrite s a       the record that a writes; kind 4, write
 --   quorumUpdateLeaderAndIsr s l isr      the ISR put into the leader l and into the quorum, as kinds 5 and 6 do

@@ -99,7 +99,7 @@ impl State {
         ACCEPTED
     }
 
-    // The state in which a has taken request e; where that names a leader, a's log is cut to the offset, and a's high
+    // The state in which a has taken request e. Where that names a leader, a's log is cut to the offset; in either case a's high
     // watermark is the smaller of itself and the offset.
     fn become_follower_at(self, a: u8, e: u8, truncation_offset: u8) -> State
         requires { ⌜ a < 5 ⌝ }
