@@ -35,9 +35,10 @@ use Rattle.parts.specs.LeaderLaws.{names-iff}
 use Rattle.cluster.specs.declared.Limits.{Limits}
 use Rattle.cluster.specs.declared.State.{State}
 use Rattle.cluster.specs.declared.Action.{Action}
+use Rattle.cluster.specs.declared.MemberTest.the-variants.{IsFollowing, HasOffset}
 use Rattle.cluster.specs.State.{replicaCount, logSize, maxRecords, maxLeaderEpoch, nextLeaderEpoch, nextRecordId, requestAt, replicaAt}
 use Rattle.cluster.specs.Predicates.{S1}
-use Rattle.cluster.specs.Actions.{replicaPresumesLeadership, replicaIsFollowing, isTrueLeaderTests, isTrueLeader, isFollowerCaughtUp, epochsUsedUp, requestMissing, epochNotAbove, controllerShrinkIsrRefusal, controllerElectLeaderRefusal, leaderRefusal, becomeLeaderRefusal, becomeFollowerRefusal, leaderWriteRefusal, leaderShrinkIsrRefusal, leaderExpandIsrRefusal, memberHasHw, leaderIncHighWatermarkRefusal, followerReplicateRefusal}
+use Rattle.cluster.specs.Actions.{replicaPresumesLeadership, replicaIsFollowing, isTrueLeaderTests, isTrueLeader, isFollowerCaughtUp, epochsUsedUp, requestMissing, epochNotAbove, controllerShrinkIsrRefusal, controllerElectLeaderRefusal, leaderRefusal, becomeLeaderRefusal, becomeFollowerRefusal, leaderWriteRefusal, leaderShrinkIsrRefusal, leaderExpandIsrRefusal, passesTest, memberPasses, membersPass, leaderIncHighWatermarkRefusal, followerReplicateRefusal}
 use Rattle.cluster.specs.declared.Kind.{Kind}
 use Rattle.cluster.specs.Act.{kindOf, uses, operandBound, operandBounds, operandTests, operandsFit, tableRefusal, actionRefusal}
 
@@ -216,22 +217,24 @@ module _ (s : State) where
 
   pub advance-accepted : (a : ℕ)
       → leaderIncHighWatermarkRefusal s a ≡ accepted
-      ↔ (replicaPresumesLeadership s a ≡ true) × (allBelow (replicaCount (s .limits)) (memberHasHw s a) ≡ true)
+      ↔ (replicaPresumesLeadership s a ≡ true) × (membersPass IsFollowing s a ≡ true) × (membersPass HasOffset s a ≡ true)
   unfolding leaderIncHighWatermarkRefusal
   advance-accepted a = (
-    (λ h. let p = refuse-zero _ _ _ h in (not-false _ (p .0), not-false _ (refuse-zero _ _ _ (p .1) .0))),
-    (λ t. refuse-none _ _ _ (ap not (t .0)) (refuse-none _ _ _ (ap not (t .1)) refl)),
+    (λ h.
+        let p = refuse-zero _ _ _ h in
+        let q = refuse-zero _ _ _ (p .1) in
+        (not-false _ (p .0), not-false _ (q .0), not-false _ (refuse-zero _ _ _ (q .1) .0))),
+    (λ t. refuse-none _ _ _ (ap not (t .0)) (refuse-none _ _ _ (ap not (t .1)) (refuse-none _ _ _ (ap not (t .2)) refl))),
   )
 
   -- where a leads itself it is in its own ISR (S5), so that an accepted advance says that it has the offset of its high watermark
   pub own-hw : (a : ℕ) → a < replicaCount (s .limits) → (replicaAt s a .leader ≡ Some a → member (replicaAt s a .isr) a ≡ true)
       → leaderIncHighWatermarkRefusal s a ≡ accepted → replicaAt s a .hw < replicaAt s a .end
-  unfolding memberHasHw
+  unfolding memberPasses passesTest
   own-hw a l own h =
       let t = advance-accepted a .0 h in
       ltb-true (replicaAt s a .hw) (replicaAt s a .end)
-      (and-right (replicaIsFollowing s a a) _
-      (implied (member (replicaAt s a .isr) a) _ (all-at _ (memberHasHw s a) (t .1) a l) (own (presumes-itself s a (t .0)))))
+      (implied (member (replicaAt s a .isr) a) _ (all-at _ (memberPasses HasOffset s a) (t .2) a l) (own (presumes-itself s a (t .0))))
 
   -- a may replicate from b
   pub record Replicates (a b : ℕ) : Type 0 where

@@ -17,7 +17,7 @@ use Rattle.cluster.specs.declared.Kind.{Kind}
 use Rattle.cluster.specs.declared.Kind.the-variants.{ControllerShrinkIsr, ControllerElectLeader, BecomeLeader, BecomeFollower, LeaderWrite, LeaderShrinkIsr, LeaderExpandIsr, LeaderIncHighWatermark, FollowerReplicate, Unknown}
 use Rattle.cluster.specs.State.{replicaCount, maxLeaderEpoch, tidy}
 use Rattle.cluster.specs.Rules.{stateRefusal}
-use Rattle.cluster.specs.Actions.{controllerShrinkIsrRefusal, controllerShrinkIsr, controllerElectLeaderRefusal, controllerElectLeader, becomeLeaderRefusal, becomeLeader, becomeFollowerRefusal, becomeFollowerAndTruncateToHw, leaderWriteRefusal, leaderWrite, leaderShrinkIsrRefusal, leaderShrinkIsr, leaderExpandIsrRefusal, leaderExpandIsr, leaderIncHighWatermarkRefusal, leaderIncHighWatermark, followerReplicateRefusal, followerReplicate}
+use Rattle.cluster.specs.Actions.{controllerShrinkIsrRefusal, controllerShrinkIsr, controllerElectLeaderRefusal, controllerElectLeader, becomeLeaderRefusal, becomeLeader, becomeFollowerRefusal, becomeFollowerAndTruncateToHw, leaderWriteRefusal, leaderWrite, leaderShrinkIsrRefusal, leaderShrinkIsr, leaderExpandIsrRefusal, leaderExpandIsr, leaderIncHighWatermarkRefusal, leaderIncHighWatermark, memberNamed, followerReplicateRefusal, followerReplicate}
 
 -- ---- kinds
 -- the kinds 0 to 8, in this order; any other number is unknown
@@ -124,27 +124,35 @@ unfoldable pub effect : State → Action → State
 effect s action = tableEffect (kindOf (action .kind)) s (action .a) (action .b) (action .e)
 
 -- ---- what an action answers
--- a number, and the state that goes with it
-abbrev pub actionAnswer : ℕ → State → ActionAnswer
-actionAnswer number s = record { refusal = number; state = s }
+-- a number, the member of a's ISR that it names, and the state that goes with it
+abbrev pub actionAnswer : ℕ → ℕ → State → ActionAnswer
+actionAnswer number member s = record { refusal = number; member = member; state = s }
+
+-- accepted: no member is named
+abbrev pub acceptedWith : State → ActionAnswer
+acceptedWith next = actionAnswer accepted 0 next
 
 -- refused: "A refused action .. gives back the given state"
-abbrev pub refusedOn : State → ℕ → ActionAnswer
-refusedOn given number = actionAnswer number given
+abbrev pub refusedOn : State → ℕ → ℕ → ActionAnswer
+refusedOn given member number = actionAnswer number member given
 
--- by its refusal: the next state at 0, else the number and the state as given
-unfoldable pub answerBy : ℕ → State → State → ActionAnswer
-answerBy number given next = byRefusal number (refusedOn given) (actionAnswer accepted next)
+-- the answer without the member that it names: "no verdict carries it", and a renaming leaves it out
+abbrev pub withoutMember : ActionAnswer → ActionAnswer
+withoutMember a = actionAnswer (a .refusal) 0 (a .state)
+
+-- by its refusal: the next state at 0, else the number, the member named and the state as given
+unfoldable pub answerBy : ℕ → ℕ → State → State → ActionAnswer
+answerBy number member given next = byRefusal number (refusedOn given member) (acceptedWith next)
 
 -- on a state that meets the rules and is tidy
 unfoldable pub step : State → Action → ActionAnswer
-step s action = answerBy (actionRefusal s action) s (effect s action)
+step s action = answerBy (actionRefusal s action) (memberNamed (actionRefusal s action) s (action .a)) s (effect s action)
 
 -- ---- an action on any state
--- "state breaks a rule 1"; then as above, of the state with zeros in its unused room
+-- 41 to 47, "in place of 1"; then as above, of the state with zeros in its unused room
 unfoldable pub refusal : State → Action → ℕ
 refusal s action = firstRefusal (stateRefusal s) (actionRefusal (tidy s) action)
 
--- what an action answers: accepted, the next state; refused, the number and the state as given
+-- what an action answers: accepted, the next state; refused, the number, the member named and the state as given
 unfoldable pub act : State → Action → ActionAnswer
-act s action = answerBy (refusal s action) s (effect (tidy s) action)
+act s action = answerBy (refusal s action) (memberNamed (refusal s action) (tidy s) (action .a)) s (effect (tidy s) action)

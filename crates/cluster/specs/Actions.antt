@@ -17,19 +17,23 @@
 --   nextRecord s a, leaderWrite s a       the record that a writes; kind 4, write
 --   quorumUpdateLeaderAndIsr s l isr      the ISR put into the leader l and into the quorum, as kinds 5 and 6 do
 --   leaderShrinkIsr, leaderExpandIsr      kinds 5 and 6, leader shrink and leader expand
---   memberHasHw s a m                     if m is in a's ISR, it has a as leader and has the offset of a's hw
+--   passesTest test s a m                 m has a as leader, or has the offset of a's hw, by which of the two is asked
+--   memberPasses test s a m               m passes it, if it is in a's ISR
+--   membersPass test s a                  every member of a's ISR passes it
+--   firstNotPassing test s a              the smallest member of a's ISR that does not; R where each does
 --   leaderIncHighWatermark s a            kind 7, advance
+--   memberNamed number s a                the member of a's ISR that an answer with this number names
 --   followerReplicate s a b               kind 8, replicate
 use Prim.Native.Nat.{ℕ, _+_, min}
-use mathlib.Core.Bool.{Bool, true, false, not, _&&_, _||_}
+use mathlib.Core.Bool.{Bool, true, false, not, _&&_, _||_, cond}
 use mathlib.Core.List.{List, [], _∷_}
 use lib.Dec.{eqb, ltb, leb}
 use lib.IntN.{pos}
-use Rattle.logic.specs.Tests.{allBelow, every}
+use Rattle.logic.specs.Tests.{allBelow, every, firstFails}
 use Rattle.logic.specs.Refuse.{refuse}
 use Rattle.parts.specs.declared.Leader.{Leader}
 use Rattle.parts.specs.declared.Leader.the-variants.{None, Some}
-use Rattle.parts.specs.Refusal.{accepted, noEpochLeft, notInIsr, alreadySo, noRequest, wrongLeader, epochNotHigher, notPresuming, noIdLeft, logFull, notTrueLeader, sameReplica, caughtUp, notCaughtUp, memberBehind, notFollowing, nothingToReplicate}
+use Rattle.parts.specs.Refusal.{accepted, noEpochLeft, notInIsr, alreadySo, noRequest, wrongLeader, epochNotHigher, notPresuming, noIdLeft, logFull, notTrueLeader, sameReplica, caughtUp, notCaughtUp, notFollowing, nothingToReplicate, memberNotFollowing, memberLacksOffset}
 use Rattle.parts.specs.Isr.{member, without, including, isAlone}
 use Rattle.parts.specs.Epoch.{sameEpoch, higherEpoch}
 use Rattle.parts.specs.Leader.{names}
@@ -37,6 +41,8 @@ use Rattle.replica.specs.declared.Record.{Record}
 use Rattle.replica.specs.Replica.{recordAt}
 use Rattle.replica.specs.Change.{withHw, withIsr, withRequest, append, becomeFollowerAndTruncateTo}
 use Rattle.cluster.specs.declared.State.{State}
+use Rattle.cluster.specs.declared.MemberTest.{MemberTest}
+use Rattle.cluster.specs.declared.MemberTest.the-variants.{IsFollowing, HasOffset}
 use Rattle.cluster.specs.State.{replicaCount, logSize, maxRecords, maxLeaderEpoch, nextLeaderEpoch, nextRecordId, requestAt, replicaAt, withReplica, withQuorumIsr, withNextRecordId, controllerUpdateIsr}
 
 -- ---- the tests that the actions share
@@ -195,17 +201,37 @@ unfoldable pub leaderExpandIsr : State → ℕ → ℕ → State
 leaderExpandIsr s a b = quorumUpdateLeaderAndIsr s a (including (replicaAt s a .isr) b)
 
 -- ---- kind 7, LeaderIncHighWatermark
--- if m is in a's ISR, it has a as leader and has the offset of a's high watermark
-unfoldable pub memberHasHw : State → ℕ → ℕ → Bool
-memberHasHw s a m =
-    not (member (replicaAt s a .isr) m) || (replicaIsFollowing s m a && ltb (replicaAt s a .hw) (replicaAt s m .end))
+-- what is asked of a member m of a's ISR: that its leader is a, and that it has the offset of a's high watermark
+unfoldable pub passesTest : MemberTest → State → ℕ → ℕ → Bool
+passesTest IsFollowing s a m = replicaIsFollowing s m a
+passesTest HasOffset s a m = ltb (replicaAt s a .hw) (replicaAt s m .end)
 
--- "10; some member of a's ISR doesn't have a as leader or hasn't offset hw 17"
+-- m passes, if it is in a's ISR
+unfoldable pub memberPasses : MemberTest → State → ℕ → ℕ → Bool
+memberPasses test s a m = not (member (replicaAt s a .isr) m) || passesTest test s a m
+
+-- every member of a's ISR passes
+abbrev pub membersPass : MemberTest → State → ℕ → Bool
+membersPass test s a = allBelow (replicaCount (s .limits)) (memberPasses test s a)
+
+-- "10"; then, in place of 17, "48 (some member's leader isn't a, tried first over all members) and 49 (some member lacks the offset)"
 unfoldable pub leaderIncHighWatermarkRefusal : State → ℕ → ℕ
 leaderIncHighWatermarkRefusal s a =
     refuse (not (replicaPresumesLeadership s a)) notPresuming
-    (refuse (not (allBelow (replicaCount (s .limits)) (memberHasHw s a))) memberBehind
-    accepted)
+    (refuse (not (membersPass IsFollowing s a)) memberNotFollowing
+    (refuse (not (membersPass HasOffset s a)) memberLacksOffset
+    accepted))
+
+-- "the smallest ISR member with that fault"; R where no member has it
+abbrev pub firstNotPassing : MemberTest → State → ℕ → ℕ
+firstNotPassing test s a = firstFails (replicaCount (s .limits)) (memberPasses test s a)
+
+-- where 48 or 49 is given, "the action's answer names the smallest ISR member with that fault, 0 in all its other answers"
+unfoldable pub memberNamed : ℕ → State → ℕ → ℕ
+memberNamed number s a =
+    cond (eqb number memberNotFollowing) (firstNotPassing IsFollowing s a)
+    (cond (eqb number memberLacksOffset) (firstNotPassing HasOffset s a)
+    0)
 
 -- "a's hw plus 1"
 unfoldable pub leaderIncHighWatermark : State → ℕ → State

@@ -6,28 +6,26 @@
 --   end-in-range, logs-bounded-of         where S2 holds too, so are the ends of logs
 --   quorum-start, quorum-later            S3 at the start, and after a request
 --   matches-none .. matches-other         S5 with no epoch, at an epoch used, and at any other
---   broken-none                           no rule is broken exactly where the state meets them all
---   only-seventh                          where some rule is broken and S1 to S6 hold, it is S7
---   rule-refused                          the refusal of a broken rule is not 0
 --   unrefused-iff .. broken-refusal       the refusal of a state is 0 exactly where it meets the rules
---   broken-is                             the refusal of a state that breaks a rule is 1
+--   only-seventh                          where some rule is broken and S1 to S6 hold, it is that of S7
 --   state-listed .. broken-listed-iff     it is one of stateNumbers exactly where the state breaks a rule, else 0
+--   broken-first                          it is the number of a rule exactly where that rule is the first that the state breaks
 --   rules-bounded, rules-logs-bounded     counts and ends of a state that meets the rules are within the arrays
-use Prim.Native.Nat.{ℕ, zero, suc, _+_, _-_, _≤_}
+use Prim.Native.Nat.{ℕ, zero, suc, _+_, _-_, _≤_, _<_}
 use mathlib.Core.Path.{ap, _≡_, refl, sym, _∙_}
 use mathlib.Core.Bool.{Bool, true, false, _&&_}
-use mathlib.Core.List.{List, _∷_}
+use mathlib.Core.List.{List, [], _∷_}
 use mathlib.Core.Logic.{_↔_}
 use native.Mathlib.Omega.{arith}
 use lib.Dec.{eqb, leb, eqb·suc-zero}
 use lib.IntN.{ℤ, pos, negsuc}
-use lib.ListN.{drop}
+use lib.ListN.{drop, length, getD}
 use borrow.Author.Tests.{leb-true}
-use Rattle.logic.specs.Refuse.{listed, listed-other, listed-not}
-use Rattle.logic.specs.Tests.{all-at, every-at, firstFailing, failing-here, failing-later, failing-none, failing-zero, and-left, and-right, true-false, refuted-iff}
+use Rattle.logic.specs.Refuse.{listed, listed-other, listed-not, distinct, FirstFails, refuseUnless, unless-here, unless-later, unless-listed, unless-zero, unless-first}
+use Rattle.logic.specs.Tests.{all-at, every-at, and-left, and-right, true-false, refuted-iff}
 use Rattle.parts.specs.declared.Leader.{Leader}
 use Rattle.parts.specs.declared.Leader.the-variants.{None}
-use Rattle.parts.specs.Refusal.{accepted, brokenState}
+use Rattle.parts.specs.Refusal.{accepted, breaksS7}
 use Rattle.parts.specs.Isr.{fullIsr}
 use Rattle.parts.specs.Epoch.{noEpoch, sameEpoch, epochUsed, requestPlace}
 use Rattle.parts.specs.Leader.{sameLeader}
@@ -37,7 +35,7 @@ use Rattle.cluster.specs.declared.Quorum.{Quorum}
 use Rattle.cluster.specs.declared.Request.{Request}
 use Rattle.cluster.specs.declared.State.{State}
 use Rattle.cluster.specs.State.{replicaCount, logSize, maxRecords, maxLeaderEpoch, nextLeaderEpoch, nextRecordId, requestIn, replicaIn}
-use Rattle.cluster.specs.Rules.{between, limitTests, inRange, rule1Tests, rule1, replicaInRange, replicaInRangeAt, leaderAndIsrInRange, rule2Tests, rule2, quorumMatchesRequest, replicaMatchesRequest, rule7, ruleTests, rules, brokenRule, ruleRefusal, stateRefusal, stateNumbers, Bounded, LogsBounded}
+use Rattle.cluster.specs.Rules.{between, limitTests, inRange, rule1Tests, rule1, replicaInRange, replicaInRangeAt, leaderAndIsrInRange, rule2Tests, rule2, quorumMatchesRequest, replicaMatchesRequest, rule7, ruleTests, rules, stateRefusal, stateNumbers, Bounded, LogsBounded}
 
 -- ---- S1
 between-low : (low high n : ℕ) → between low high n ≡ true → low ≤ n
@@ -141,36 +139,10 @@ module _ (next : ℕ) (requests : List Request) (leader : Leader) (isr : ℕ) wh
   matches-other (negsuc (suc n)) h k = refl
 
 -- ---- the seven together
--- no rule is broken exactly where the state meets them all
-pub broken-none : (s : State) → brokenRule s ≡ 0 ↔ rules s ≡ true
-unfolding brokenRule rules
-broken-none s = failing-zero 0 (ruleTests s)
-
--- where some is broken and S1 to S6 hold, it is S7
-pub only-seventh : (s : State) → rules s ≡ false → firstFailing 7 (drop 6 (ruleTests s)) ≡ brokenRule s → 7 ≡ brokenRule s
-only-seventh s unmet e = go (rule7 (replicaCount (s .limits)) (s .replicas)) refl
-  where
-    go : (b : Bool) → rule7 (replicaCount (s .limits)) (s .replicas) ≡ b → 7 ≡ brokenRule s
-    go true h = absurd (true-false (sym (broken-none s .0 (sym (failing-none 8 ∙ failing-later 7 _ _ h ∙ e))) ∙ unmet))
-    go false h = failing-here 7 _ _ h ∙ e
-
--- ---- the refusal of a state
-rule-refusal-iff : (k : ℕ) → ruleRefusal k ≡ accepted ↔ k ≡ 0
-unfolding ruleRefusal
-rule-refusal-iff zero = ((λ e. refl), (λ e. refl))
-rule-refusal-iff (suc k) = ((λ e. absurd (omega arith)), (λ e. absurd (omega arith)))
-
--- a broken rule is refused: its number is not 0
-pub rule-refused : (k : ℕ) → ruleRefusal (suc k) ≡ accepted → ⊥
-rule-refused k e = let z = rule-refusal-iff (suc k) .0 e in omega arith
-
 -- a state is refused exactly where it does not meet the rules
 pub unrefused-iff : (s : State) → stateRefusal s ≡ accepted ↔ rules s ≡ true
-unfolding stateRefusal
-unrefused-iff s = (
-  (λ e. broken-none s .0 (rule-refusal-iff (brokenRule s) .0 e)),
-  (λ h. rule-refusal-iff (brokenRule s) .1 (broken-none s .1 h)),
-)
+unfolding stateRefusal rules listed
+unrefused-iff s = unless-zero stateNumbers (ruleTests s) refl refl
 
 pub refusal-met : (s : State) → stateRefusal s ≡ accepted → rules s ≡ true
 refusal-met s = unrefused-iff s .0
@@ -184,23 +156,20 @@ refusal-broken s h = refuted-iff (rules s) (unrefused-iff s) .0 h
 pub broken-refusal : (s : State) → rules s ≡ false → stateRefusal s ≡ accepted → ⊥
 broken-refusal s h = refuted-iff (rules s) (unrefused-iff s) .1 h
 
--- and then its number is 1
-pub broken-is : (s : State) → rules s ≡ false → stateRefusal s ≡ brokenState
-unfolding stateRefusal ruleRefusal
-broken-is s h = go (brokenRule s) (λ e. broken-refusal s h (ap ruleRefusal e))
+-- where some rule is broken and S1 to S6 hold, it is S7
+pub only-seventh : (s : State) → rules s ≡ false → refuseUnless (drop 6 stateNumbers) (drop 6 (ruleTests s)) ≡ stateRefusal s
+    → breaksS7 ≡ stateRefusal s
+unfolding refuseUnless
+only-seventh s unmet e = go (rule7 (replicaCount (s .limits)) (s .replicas)) refl
   where
-    go : (k : ℕ) → (k ≡ 0 → ⊥) → ruleRefusal k ≡ brokenState
-    go zero f = absurd (f refl)
-    go (suc k) f = refl
+    go : (b : Bool) → rule7 (replicaCount (s .limits)) (s .replicas) ≡ b → breaksS7 ≡ stateRefusal s
+    go true h = absurd (broken-refusal s unmet (sym (unless-later breaksS7 [] (rule7 (replicaCount (s .limits)) (s .replicas)) [] h ∙ e)))
+    go false h = unless-here breaksS7 [] (rule7 (replicaCount (s .limits)) (s .replicas)) [] h ∙ e
 
 -- the number of a state is 0 or one of stateNumbers
 pub state-listed : (s : State) → listed (accepted ∷ stateNumbers) (stateRefusal s) ≡ true
-unfolding stateRefusal ruleRefusal listed
-state-listed s = go (brokenRule s)
-  where
-    go : (k : ℕ) → listed (accepted ∷ stateNumbers) (ruleRefusal k) ≡ true
-    go zero = refl
-    go (suc k) = refl
+unfolding stateRefusal
+state-listed s = unless-listed stateNumbers (ruleTests s)
 
 -- and one of the list where it breaks a rule
 pub broken-listed : (s : State) → rules s ≡ false → listed stateNumbers (stateRefusal s) ≡ true
@@ -212,6 +181,11 @@ broken-listed-iff s = (
   broken-listed s,
   (λ l. refuted-iff (rules s) (unrefused-iff s) .0 (listed-not stateNumbers (stateRefusal s) accepted l refl)),
 )
+
+-- and the number at place k exactly where rule S(k+1) is the first that it breaks
+pub broken-first : (s : State) (k : ℕ) → k < length stateNumbers → stateRefusal s ≡ getD stateNumbers k accepted ↔ FirstFails (ruleTests s) k
+unfolding stateRefusal listed distinct
+broken-first s k l = unless-first stateNumbers (ruleTests s) k refl l refl refl
 
 -- a state that meets the rules is read past the end of no array
 pub rules-bounded : (s : State) → rules s ≡ true → Bounded s

@@ -12,20 +12,19 @@
 --   rule1 .. rule7                       S1 to S7, each over the fields that it reads
 --   ruleTests s                          the seven of a state, in their order
 --   rules s                              the state meets S1 to S7
---   brokenRule s                         the number of the first rule that the state breaks, 1 to 7; 0 where it breaks none
---   ruleRefusal k                        the refusal by that number: 1, whichever rule it is; 0 at 0
---   stateRefusal s                       the refusal of a state: 1 where it breaks a rule, else 0
---   stateNumbers                         the numbers that it gives beside 0
+--   stateNumbers                         the number of each rule, 41 to 47, in their order
+--   stateRefusal s                       the refusal of a state: the number of the first rule that it breaks; 0 where it breaks none
 --   Bounded s, LogsBounded s             the counts, and the ends of logs, are within the arrays
 use Prim.Native.Nat.{ℕ, zero, suc, _+_, _≤_, _<_}
 use mathlib.Core.Bool.{Bool, false, not, _&&_, _||_}
 use mathlib.Core.List.{List, [], _∷_}
 use lib.Dec.{eqb, ltb, leb}
 use lib.IntN.{ℤ, pos, negsuc}
-use Rattle.logic.specs.Tests.{allBelow, every, firstFailing}
+use Rattle.logic.specs.Tests.{allBelow, every}
+use Rattle.logic.specs.Refuse.{refuseUnless}
 use Rattle.parts.specs.declared.Leader.{Leader}
 use Rattle.parts.specs.declared.Leader.the-variants.{None}
-use Rattle.parts.specs.Refusal.{accepted, brokenState}
+use Rattle.parts.specs.Refusal.{breaksS1, breaksS2, breaksS3, breaksS4, breaksS5, breaksS6, breaksS7}
 use Rattle.parts.specs.Isr.{member, fullIsr, isrBelow}
 use Rattle.parts.specs.Epoch.{sameEpoch, lastEpoch}
 use Rattle.parts.specs.Leader.{names, sameLeader, leaderBelow, leaderNoneOrInIsr}
@@ -169,22 +168,13 @@ ruleTests s =
 unfoldable pub rules : State → Bool
 rules s = every (ruleTests s)
 
--- the number of the first rule that the state breaks, 1 to 7; 0 where it breaks none
-unfoldable pub brokenRule : State → ℕ
-brokenRule s = firstFailing 1 (ruleTests s)
-
--- the number that says so: "state breaks a rule 1", whichever it is
-unfoldable pub ruleRefusal : ℕ → ℕ
-ruleRefusal zero = accepted
-ruleRefusal (suc k) = brokenState
-
--- the refusal of a state
-unfoldable pub stateRefusal : State → ℕ
-stateRefusal s = ruleRefusal (brokenRule s)
-
--- the numbers that it gives beside 0
+-- "41 to 47 stand for S1 to S7", in their order
 abbrev pub stateNumbers : List ℕ
-stateNumbers = brokenState ∷ []
+stateNumbers = breaksS1 ∷ breaksS2 ∷ breaksS3 ∷ breaksS4 ∷ breaksS5 ∷ breaksS6 ∷ breaksS7 ∷ []
+
+-- the refusal of a state: the number of the first rule that it breaks; 0 where it breaks none
+unfoldable pub stateRefusal : State → ℕ
+stateRefusal s = refuseUnless stateNumbers (ruleTests s)
 
 -- ---- what the rules before it give to the code of a rule
 -- after S1: no array of replicas or requests is read past its end

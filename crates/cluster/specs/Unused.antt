@@ -1,9 +1,9 @@
 -- The rules look at no unused room: equal states break the same rule first. Assumes nothing.
 --
---   broken-same           equal states break the same rule first
+--   state-refusal-same    equal states break the same rule first, and so are refused alike
 --   state-refusal-same    they have the same refusal
 --   rules-same            both meet the rules, or neither
---   broken-tidy           a state and its tidy form break the same rule first
+--   state-refusal-tidy    a state and its tidy form break the same rule first
 --   rules-tidy            both meet the rules, or neither
 use Prim.Native.Nat.{ℕ, zero, suc, _≤_, _<_}
 use mathlib.Core.Path.{_≡_, refl, sym, _∙_, ap, ap₂}
@@ -15,7 +15,8 @@ use lib.Dec.{ltb, leb}
 use lib.IntN.{ℤ, pos, negsuc}
 use lib.ListN.{drop}
 use borrow.Author.Tests.{le-ltb}
-use Rattle.logic.specs.Tests.{allBelow, all-cong, every-cong, firstFailing, failing-cong, bool-ext}
+use Rattle.logic.specs.Refuse.{refuseUnless, unless-cong}
+use Rattle.logic.specs.Tests.{allBelow, all-cong, every-cong, bool-ext}
 use Rattle.parts.specs.declared.Leader.{Leader}
 use Rattle.parts.specs.Isr.{member}
 use Rattle.parts.specs.Leader.{names, sameLeader, leaderNoneOrInIsr}
@@ -28,8 +29,9 @@ use Rattle.cluster.specs.declared.Quorum.{Quorum}
 use Rattle.cluster.specs.declared.Request.{Request}
 use Rattle.cluster.specs.declared.State.{State}
 use Rattle.cluster.specs.State.{replicaCount, logSize, nextLeaderEpoch, nextRecordId, requestIn, replicaIn, stateOf, Same, tidy}
-use Rattle.cluster.specs.Rules.{leaderAndIsrInRange, replicaInRange, replicaInRangeAt, requestInRangeAt, rule1, rule2, quorumMatchesRequest, rule3, requestLeaderInIsr, rule4, replicaMatchesRequest, replicaMeetsS5, replicaMeetsS5At, rule5, logInUseAt, rule6, agreesWithAt, agreesWithAll, agreesAt, rule7, ruleTests, rules, brokenRule, ruleRefusal, stateRefusal}
-use Rattle.cluster.specs.RuleLaws.{bounded-of, logs-bounded-of, broken-none}
+use Rattle.parts.specs.Refusal.{breaksS1, breaksS2, breaksS3, breaksS4, breaksS5, breaksS6, breaksS7}
+use Rattle.cluster.specs.Rules.{leaderAndIsrInRange, replicaInRange, replicaInRangeAt, requestInRangeAt, rule1, rule2, quorumMatchesRequest, rule3, requestLeaderInIsr, rule4, replicaMatchesRequest, replicaMeetsS5, replicaMeetsS5At, rule5, logInUseAt, rule6, agreesWithAt, agreesWithAll, agreesAt, rule7, ruleTests, rules, stateRefusal, stateNumbers}
+use Rattle.cluster.specs.RuleLaws.{bounded-of, logs-bounded-of, refusal-met, met-refusal}
 use Rattle.cluster.specs.Equality.{state-path, tidy-same}
 
 -- ---- logs of equal replicas
@@ -135,17 +137,17 @@ module _ (c : Limits) (next : ℕ) (quorum : Quorum) (rs us : List Request) (ps 
 
   -- the first test from S2 on that fails is the same, where S2 bounds the ends of logs
   tests-from-s2-same : (nextId : ℕ) → (rule2 c next quorum rs ps ≡ true → (i : ℕ) → i < replicaCount c → replicaIn ps i .end ≤ 16)
-      → firstFailing 2 (drop 1 (ruleTests (stateOf c next nextId quorum rs ps)))
-      ≡ firstFailing 2 (drop 1 (ruleTests (stateOf c next nextId quorum us qs)))
+      → refuseUnless (drop 1 stateNumbers) (drop 1 (ruleTests (stateOf c next nextId quorum rs ps)))
+      ≡ refuseUnless (drop 1 stateNumbers) (drop 1 (ruleTests (stateOf c next nextId quorum us qs)))
   tests-from-s2-same nextId ends =
-      failing-cong 2 _ _ _ _ rule2-same
+      unless-cong breaksS2 _ _ _ _ _ rule2-same
       (λ two.
-      failing-cong 3 _ _ _ _ rule3-same
+      unless-cong breaksS3 _ _ _ _ _ rule3-same
       (λ three.
-      failing-cong 4 _ _ _ _ rule4-same
+      unless-cong breaksS4 _ _ _ _ _ rule4-same
       (λ four.
-      failing-cong 5 _ _ _ _ rule5-same
-      (λ five. failing-cong 6 _ _ _ _ (rule6-same (ends two) nextId) (λ six. failing-cong 7 _ _ _ _ (rule7-same (ends two)) (λ seven. refl))))))
+      unless-cong breaksS5 _ _ _ _ _ rule5-same
+      (λ five. unless-cong breaksS6 _ _ _ _ _ (rule6-same (ends two) nextId) (λ six. unless-cong breaksS7 _ _ _ _ _ (rule7-same (ends two)) (λ seven. refl))))))
 
 -- ---- the seven together
 module _ (s t : State) (m : Same s t) where
@@ -159,7 +161,7 @@ module _ (s t : State) (m : Same s t) where
 
   -- where S1 holds, what is in use is in the arrays, so the first test from S2 on that fails is the same
   later-tests-same : rule1 (s .limits) (nextLeaderEpoch s) (nextRecordId s) ≡ true
-      → firstFailing 2 (drop 1 (ruleTests s)) ≡ firstFailing 2 (drop 1 (ruleTests second))
+      → refuseUnless (drop 1 stateNumbers) (drop 1 (ruleTests s)) ≡ refuseUnless (drop 1 stateNumbers) (drop 1 (ruleTests second))
   unfolding second
   later-tests-same one =
       let b = bounded-of s one in
@@ -168,25 +170,21 @@ module _ (s t : State) (m : Same s t) where
       (λ i l. m .replicas i (omega (arith, b .replicas)) l)
       (nextRecordId s) (logs-bounded-of s one)
 
-  -- equal states break the same rule first
-  pub broken-same : brokenRule s ≡ brokenRule t
-  unfolding brokenRule second
-  broken-same = failing-cong 1 _ _ _ _ refl later-tests-same ∙ ap brokenRule second-is
-
-  -- so they are refused alike, and meet the rules alike
+  -- equal states break the same rule first, and so are refused alike
   pub state-refusal-same : stateRefusal s ≡ stateRefusal t
-  unfolding stateRefusal
-  state-refusal-same = ap ruleRefusal broken-same
+  unfolding stateRefusal second
+  state-refusal-same = unless-cong breaksS1 _ _ _ _ _ refl later-tests-same ∙ ap stateRefusal second-is
 
+  -- and meet the rules alike
   pub rules-same : rules s ≡ rules t
   rules-same =
       bool-ext (rules s) (rules t)
-      (λ h. broken-none t .0 (sym broken-same ∙ broken-none s .1 h))
-      (λ h. broken-none s .0 (broken-same ∙ broken-none t .1 h))
+      (λ h. refusal-met t (sym state-refusal-same ∙ met-refusal s h))
+      (λ h. refusal-met s (state-refusal-same ∙ met-refusal t h))
 
 -- so a state and its tidy form break the same rule first, and meet the rules alike
-pub broken-tidy : (s : State) → brokenRule (tidy s) ≡ brokenRule s
-broken-tidy s = broken-same (tidy s) s (tidy-same s)
+pub state-refusal-tidy : (s : State) → stateRefusal (tidy s) ≡ stateRefusal s
+state-refusal-tidy s = state-refusal-same (tidy s) s (tidy-same s)
 
 pub rules-tidy : (s : State) → rules (tidy s) ≡ rules s
 rules-tidy s = rules-same (tidy s) s (tidy-same s)

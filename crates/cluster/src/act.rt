@@ -4,15 +4,19 @@ ghost use mathlib.Core.Bool.{true};
 ghost use Rattle.parts.specs.Refusal.{accepted};
 ghost use Rattle.cluster.specs.State.{tidy};
 ghost use Rattle.cluster.specs.Rules.{rules};
+ghost use Rattle.cluster.specs.Actions.{memberNamed};
 ghost use Rattle.cluster.specs.Act.{kindOf, operandsFit, tableRefusal, actionRefusal, effect, step, act};
 use crate::Action;
 use crate::ActionAnswer;
 use crate::Kind;
 use crate::LAST_KIND;
+use crate::MemberTest;
 use crate::State;
 use crate::kinds;
 use parts::refusal::ACCEPTED;
 use parts::refusal::BAD_OPERAND;
+use parts::refusal::MEMBER_LACKS_OFFSET;
+use parts::refusal::MEMBER_NOT_FOLLOWING;
 use parts::refusal::UNKNOWN_KIND;
 
 impl State {
@@ -59,7 +63,7 @@ impl State {
         }
     }
 
-    // The refusal of an action, 2 to 19, or 0. The caller shows that the state meets the rules.
+    // The refusal of an action on a state that meets the rules, or 0. The caller shows that the state meets the rules.
     pub fn action_refusal(self, action: Action) -> u8
         requires { ⌜ rules self ≡ true ⌝ }
         ensures { λ r. ⌜ r ≡ actionRefusal self action ⌝ }
@@ -74,6 +78,22 @@ impl State {
         self.table_refusal(action)
     }
 
+    // The member that an answer names: beside 48 and 49 the smallest of a's ISR with that fault, else 0. The caller shows that the
+    // state meets the rules and that the action is refused on it by this number.
+    fn member_named(self, action: Action, refusal: u8) -> u8
+        requires { ⌜ rules self ≡ true ⌝ }
+        requires { ⌜ refusal ≡ actionRefusal self action ⌝ }
+        ensures { λ r. ⌜ r ≡ memberNamed refusal self (action .a) ⌝ }
+    {
+        if refusal == MEMBER_NOT_FOLLOWING {
+            return self.first_not_passing(MemberTest::IsFollowing, action.a);
+        }
+        if refusal == MEMBER_LACKS_OFFSET {
+            return self.first_not_passing(MemberTest::HasOffset, action.a);
+        }
+        0
+    }
+
     // What an action answers on a state that is known to meet the rules and to be tidy: neither is tested. The caller
     // shows both. The answer is that of `act`.
     fn step(self, action: Action) -> ActionAnswer
@@ -86,17 +106,28 @@ impl State {
             let next = self.effect(action);
             return ActionAnswer {
                 refusal: ACCEPTED,
+                member: 0,
                 state: next,
             };
         }
+        // Every other refusal of an action is smaller, and names no member; a call would copy the state for nothing.
+        if refusal < MEMBER_NOT_FOLLOWING {
+            return ActionAnswer {
+                refusal: refusal,
+                member: 0,
+                state: self,
+            };
+        }
+        let member = self.member_named(action, refusal);
         ActionAnswer {
             refusal: refusal,
+            member: member,
             state: self,
         }
     }
 
-    // What an action answers on any state: accepted, 0 and the next state, with zeros in its unused room; refused, the
-    // number and the state as given.
+    // What an action answers on any state: accepted, 0 and the next state, with zeros in its unused room; refused, the number, the
+    // member that it names and the state as given.
     pub fn act(self, action: Action) -> ActionAnswer
         ensures { λ r. ⌜ r ≡ act self action ⌝ }
     {
@@ -104,6 +135,7 @@ impl State {
         if broken != ACCEPTED {
             return ActionAnswer {
                 refusal: broken,
+                member: 0,
                 state: self,
             };
         }
@@ -113,6 +145,7 @@ impl State {
         }
         ActionAnswer {
             refusal: answer.refusal,
+            member: answer.member,
             state: self,
         }
     }

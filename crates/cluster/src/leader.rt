@@ -4,18 +4,19 @@
 ghost use mathlib.Core.Path.{_≡_};
 ghost use mathlib.Core.Bool.{true};
 ghost use Prim.Native.Nat.{_<_};
-ghost use Rattle.logic.specs.Tests.{allBelow};
 ghost use Rattle.parts.specs.Refusal.{accepted};
 ghost use Rattle.cluster.specs.State.{replicaCount, replicaAt};
 ghost use Rattle.cluster.specs.Rules.{rules};
-ghost use Rattle.cluster.specs.Actions.{leaderWriteRefusal, leaderWrite, quorumUpdateLeaderAndIsr, leaderShrinkIsrRefusal, leaderShrinkIsr, leaderExpandIsrRefusal, leaderExpandIsr, memberHasHw, leaderIncHighWatermarkRefusal, leaderIncHighWatermark};
-ghost use Rattle.cluster.specs.ActLaws.{changedIsr};
+ghost use Rattle.cluster.specs.Actions.{leaderWriteRefusal, leaderWrite, quorumUpdateLeaderAndIsr, leaderShrinkIsrRefusal, leaderShrinkIsr, leaderExpandIsrRefusal, leaderExpandIsr, memberPasses, firstNotPassing, leaderIncHighWatermarkRefusal, leaderIncHighWatermark};
+ghost use Rattle.cluster.specs.ActLaws.{changedIsr, memberRefusal, membersRefusal};
+use crate::MemberTest;
 use crate::State;
 use parts::refusal::ACCEPTED;
 use parts::refusal::ALREADY_SO;
 use parts::refusal::CAUGHT_UP;
 use parts::refusal::LOG_FULL;
-use parts::refusal::MEMBER_BEHIND;
+use parts::refusal::MEMBER_LACKS_OFFSET;
+use parts::refusal::MEMBER_NOT_FOLLOWING;
 use parts::refusal::NO_ID_LEFT;
 use parts::refusal::NOT_CAUGHT_UP;
 use parts::refusal::NOT_IN_ISR;
@@ -159,40 +160,85 @@ impl State {
         self.quorum_update_leader_and_isr(a, b, true)
     }
 
-    // Whether m, if it is in a's ISR, has a as leader and has the offset of a's high watermark.
-    fn member_has_hw(self, a: u8, m: u8) -> bool
+    // Whether m, if it is in a's ISR, passes a test: it has a as leader, or has the offset of a's high watermark.
+    fn member_passes(self, test: MemberTest, a: u8, m: u8) -> bool
         requires { ⌜ a < 5 ⌝ }
         requires { ⌜ m < 5 ⌝ }
-        ensures { λ r. ⌜ r ≡ memberHasHw self a m ⌝ }
+        ensures { λ r. ⌜ r ≡ memberPasses test self a m ⌝ }
     {
         let p = self.replica_at(a);
         if !parts::is_member(p.isr, m) {
             return true;
         }
-        if !self.replica_is_following(m, a) {
-            return false;
-        }
         let q = self.replica_at(m);
-        p.hw < q.end
+        let l = q.leader;
+        match test {
+            MemberTest::IsFollowing => l.names(a),
+            MemberTest::HasOffset => p.hw < q.end,
+        }
     }
 
-    // Whether every member of a's ISR has a as leader and has the offset of a's high watermark.
-    fn members_have_hw(self, a: u8) -> bool
+    // The smallest member of a's ISR that does not pass a test; R where each passes.
+    pub(crate) fn first_not_passing(self, test: MemberTest, a: u8) -> u8
         requires { ⌜ rules self ≡ true ⌝ }
         requires { ⌜ a < 5 ⌝ }
-        ensures { λ r. ⌜ r ≡ allBelow (replicaCount (self .limits)) (memberHasHw self a) ⌝ }
+        ensures { λ r. ⌜ r ≡ firstNotPassing test self a ⌝ }
     {
         let c = self.limits;
         let n = c.replica_count;
         let mut m: u8 = 0;
         while m < n {
-            if self.member_has_hw(a, m) {
+            if self.member_passes(test, a, m) {
                 m = m + 1;
             } else {
-                return false;
+                return m;
             }
         }
-        true
+        n
+    }
+
+    // What a member m of a's ISR gives: 48 where its leader isn't a, 49 where it lacks the offset of a's high watermark; 0 where it
+    // has neither fault, or is no member.
+    fn member_refusal(self, a: u8, m: u8) -> u8
+        requires { ⌜ a < 5 ⌝ }
+        requires { ⌜ m < 5 ⌝ }
+        ensures { λ r. ⌜ r ≡ memberRefusal self a m ⌝ }
+    {
+        let p = self.replica_at(a);
+        if !parts::is_member(p.isr, m) {
+            return ACCEPTED;
+        }
+        let q = self.replica_at(m);
+        let l = q.leader;
+        if !l.names(a) {
+            return MEMBER_NOT_FOLLOWING;
+        }
+        if q.end <= p.hw {
+            return MEMBER_LACKS_OFFSET;
+        }
+        ACCEPTED
+    }
+
+    // What the members of a's ISR give: 48 where one gives it, whatever the others do, else 49 where one gives that, else 0. One pass
+    // asks both of each, as `first_not_passing` does where a member is named: a call of it for each copies the state each time.
+    fn members_refusal(self, a: u8) -> u8
+        requires { ⌜ rules self ≡ true ⌝ }
+        requires { ⌜ a < 5 ⌝ }
+        ensures { λ r. ⌜ r ≡ membersRefusal self a ⌝ }
+    {
+        let c = self.limits;
+        let n = c.replica_count;
+        let mut kept = ACCEPTED;
+        let mut m: u8 = 0;
+        while m < n {
+            let number = self.member_refusal(a, m);
+            if number == MEMBER_NOT_FOLLOWING {
+                return MEMBER_NOT_FOLLOWING;
+            }
+            kept = parts::larger(kept, number);
+            m = m + 1;
+        }
+        kept
     }
 
     // Kind 7: the refusal of raising a's high watermark.
@@ -204,10 +250,7 @@ impl State {
         if !self.replica_presumes_leadership(a) {
             return NOT_PRESUMING;
         }
-        if !self.members_have_hw(a) {
-            return MEMBER_BEHIND;
-        }
-        ACCEPTED
+        self.members_refusal(a)
     }
 
     // Kind 7: a's high watermark plus 1.

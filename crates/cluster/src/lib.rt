@@ -14,12 +14,18 @@ ghost use mathlib.Core.Path.{_≡_};
 ghost use Prim.Native.Nat.{_+_, _≤_};
 ghost use lib.ListN.{length};
 ghost use Rattle.cluster.specs.State.{limitsAt, zeroState, tidy};
-ghost use Rattle.cluster.specs.Rules.{brokenRule, stateRefusal};
+ghost use Rattle.cluster.specs.Rules.{stateRefusal};
 ghost use Rattle.cluster.specs.Fresh.{fresh};
 use parts::Leader;
 use parts::refusal::ACCEPTED;
 use parts::refusal::BAD_CONFIGURATION;
-use parts::refusal::BROKEN_STATE;
+use parts::refusal::BREAKS_S1;
+use parts::refusal::BREAKS_S2;
+use parts::refusal::BREAKS_S3;
+use parts::refusal::BREAKS_S4;
+use parts::refusal::BREAKS_S5;
+use parts::refusal::BREAKS_S6;
+use parts::refusal::BREAKS_S7;
 use replica::Replica;
 
 // A configuration: R replicas, logs of L records, M record ids, leader epochs 0 to X.
@@ -93,9 +99,18 @@ pub struct Bounds {
     pub e: u8,
 }
 
-// What an action answers: a number, 0 for accepted, and the next state, or the state as given where it is refused.
+// What raising a leader's high watermark asks of every member of its ISR: that the leader is the member's own, and that the
+// member has the offset of the high watermark.
+pub enum MemberTest {
+    IsFollowing,
+    HasOffset,
+}
+
+// What an action answers: a number, 0 for accepted; beside 48 and 49 the smallest member of the ISR with that fault, else 0; and
+// the next state, or the state as given where it is refused.
 pub struct ActionAnswer {
     pub refusal: u8,
+    pub member: u8,
     pub state: State,
 }
 
@@ -186,41 +201,32 @@ impl State {
         tidy::tidy_replicas(tidy::tidy_requests(self))
     }
 
-    // The number of the first state rule that is broken, 1 to 7; 0 where none is. Where some is and S1 to S6 hold, it is S7.
-    pub fn broken_rule(self) -> u8
-        ensures { λ r. ⌜ r ≡ brokenRule self ⌝ }
-    {
-        if rules::meets_rules(self) {
-            return 0;
-        }
-        if !rules::rule_1(self) {
-            return 1;
-        }
-        if !rules::rule_2(self) {
-            return 2;
-        }
-        if !rules::rule_3(self) {
-            return 3;
-        }
-        if !rules::rule_4(self) {
-            return 4;
-        }
-        if !rules::rule_5(self) {
-            return 5;
-        }
-        if !rules::rule_6(self) {
-            return 6;
-        }
-        7
-    }
-
-    // The refusal of a state that breaks a rule, 1; 0 where it meets them all.
+    // The refusal of a state: the number of the first state rule that it breaks, 41 to 47 for S1 to S7; 0 where it breaks none.
+    // Where it breaks some and S1 to S6 hold, it is that of S7.
     pub fn state_refusal(self) -> u8
         ensures { λ r. ⌜ r ≡ stateRefusal self ⌝ }
     {
         if rules::meets_rules(self) {
             return ACCEPTED;
         }
-        BROKEN_STATE
+        if !rules::rule_1(self) {
+            return BREAKS_S1;
+        }
+        if !rules::rule_2(self) {
+            return BREAKS_S2;
+        }
+        if !rules::rule_3(self) {
+            return BREAKS_S3;
+        }
+        if !rules::rule_4(self) {
+            return BREAKS_S4;
+        }
+        if !rules::rule_5(self) {
+            return BREAKS_S5;
+        }
+        if !rules::rule_6(self) {
+            return BREAKS_S6;
+        }
+        BREAKS_S7
     }
 }
