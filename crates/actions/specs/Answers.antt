@@ -3,12 +3,12 @@
 use Prim.Native.Nat.{ℕ, zero, suc}
 use mathlib.Core.Path.{_≡_, refl, sym, _∙_, ap, ap₂}
 use mathlib.Core.Bool.{Bool, true, false}
-use mathlib.Core.List.{List, [], _∷_, _++_}
+use mathlib.Core.List.{List, [], _∷_, _++_, map}
 use Rattle.logic.specs.Tests.{every}
 use Rattle.logic.specs.Refuse.{refuse, firstRefusal, byRefusal, by-other, listed, listed-refuse, listed-first, listed-within}
 use Rattle.parts.specs.declared.Leader.{Leader}
 use Rattle.parts.specs.declared.Leader.the-variants.{None, Some}
-use Rattle.parts.specs.Refusal.{accepted, unknownKind, badOperand, noEpochLeft, notInIsr, alreadySo, noRequest, wrongLeader, epochNotHigher, notPresuming, noIdLeft, logFull, notTrueLeader, sameReplica, caughtUp, notCaughtUp, memberBehind, notFollowing, nothingToReplicate}
+use Rattle.parts.specs.Refusal.{accepted, unknownKind, badOperand, noEpochLeft, notInIsr, alreadySo, noRequest, wrongLeader, epochNotHigher, notPresuming, noIdLeft, logFull, notTrueLeader, sameReplica, caughtUp, notCaughtUp, notFollowing, nothingToReplicate, memberNotFollowing, memberLacksOffset}
 use Rattle.cluster.specs.declared.State.{State}
 use Rattle.cluster.specs.declared.Action.{Action}
 use Rattle.cluster.specs.declared.ActionAnswer.{ActionAnswer}
@@ -19,33 +19,34 @@ use Rattle.cluster.specs.Rules.{rules, stateRefusal, stateNumbers}
 use Rattle.cluster.specs.RuleLaws.{state-listed, broken-refusal}
 use Rattle.cluster.specs.Equality.{same-refl, same-iff-tidy}
 use Rattle.cluster.specs.Unused.{state-refusal-same}
-use Rattle.cluster.specs.Actions.{controllerShrinkIsrRefusal, controllerElectLeaderRefusal, leaderRefusal, becomeLeaderRefusal, becomeFollowerRefusal, leaderWriteRefusal, leaderShrinkIsrRefusal, leaderExpandIsrRefusal, leaderIncHighWatermarkRefusal, followerReplicateRefusal}
-use Rattle.cluster.specs.Act.{kindOf, tableRefusal, actionRefusal, effect, actionAnswer, refusedOn, answerBy, refusal, act}
+use Rattle.cluster.specs.Actions.{controllerShrinkIsrRefusal, controllerElectLeaderRefusal, leaderRefusal, becomeLeaderRefusal, becomeFollowerRefusal, leaderWriteRefusal, leaderShrinkIsrRefusal, leaderExpandIsrRefusal, leaderIncHighWatermarkRefusal, memberNamed, followerReplicateRefusal}
+use Rattle.cluster.specs.Act.{kindOf, tableRefusal, actionRefusal, effect, actionAnswer, acceptedWith, refusedOn, answerBy, refusal, act}
 use Rattle.cluster.specs.ActLaws.{answer-number, answer-zero, answer-other, refusal-of-met, act-broken}
 
 -- ---- the number, and the state that goes with it
 pub act-number : (s : State) (action : Action) → act s action .refusal ≡ refusal s action
 unfolding act
-act-number s action = answer-number (refusal s action) s (effect (tidy s) action)
+act-number s action = answer-number (refusal s action) _ s (effect (tidy s) action)
 
 -- accepted where nothing refuses it, and then the next state is the effect on the tidy state
-pub act-accepted : (s : State) (action : Action) → refusal s action ≡ accepted → act s action ≡ actionAnswer accepted (effect (tidy s) action)
+pub act-accepted : (s : State) (action : Action) → refusal s action ≡ accepted → act s action ≡ acceptedWith (effect (tidy s) action)
 unfolding act
-act-accepted s action h = sym (answer-zero (refusal s action) s (effect (tidy s) action) h)
+act-accepted s action h = sym (answer-zero (refusal s action) _ s (effect (tidy s) action) h)
 
--- refused: the number, and the state as given
-pub act-refused : (s : State) (action : Action) → (refusal s action ≡ accepted → ⊥) → act s action ≡ actionAnswer (refusal s action) s
+-- refused: the number, the member that it names, and the state as given
+pub act-refused : (s : State) (action : Action) → (refusal s action ≡ accepted → ⊥)
+    → act s action ≡ actionAnswer (refusal s action) (memberNamed (refusal s action) (tidy s) (action .a)) s
 unfolding act
-act-refused s action h = sym (answer-other (refusal s action) s (effect (tidy s) action) h)
+act-refused s action h = sym (answer-other (refusal s action) _ s (effect (tidy s) action) h)
 
 -- so a refused action gives back the given state, and one on a state that breaks a rule has that state's number
 pub act-given : (s : State) (action : Action) → (act s action .refusal ≡ accepted → ⊥) → act s action .state ≡ s
 unfolding act answerBy
 act-given s action h =
     ap (λ (a : ActionAnswer). a .state)
-    (by-other (λ (a : ActionAnswer). a .refusal) (refusal s action) (refusedOn s) (actionAnswer accepted (effect (tidy s) action)) refl h)
+    (by-other (λ (a : ActionAnswer). a .refusal) (refusal s action) (refusedOn s (memberNamed (refusal s action) (tidy s) (action .a))) (acceptedWith (effect (tidy s) action)) refl h)
 
-pub act-unmet : (s : State) (action : Action) → rules s ≡ false → act s action ≡ refusedOn s (stateRefusal s)
+pub act-unmet : (s : State) (action : Action) → rules s ≡ false → act s action ≡ refusedOn s 0 (stateRefusal s)
 act-unmet s action h = sym (act-broken s action (broken-refusal s h))
 
 -- ---- the numbers that it may give beside 0
@@ -67,44 +68,79 @@ actionNumbers =
     ∷ sameReplica
     ∷ caughtUp
     ∷ notCaughtUp
-    ∷ memberBehind
     ∷ notFollowing
     ∷ nothingToReplicate
+    ∷ memberNotFollowing
+    ∷ memberLacksOffset
     ∷ []
 
--- 0 or one of those; a chain of such numbers gives such a number
-abbrev Listed : ℕ → Type 0
-Listed n = listed (accepted ∷ actionNumbers) n ≡ true
+-- by the table each kind gives those of its own row, column "refusals"
+unfoldable pub tableNumbers : Kind → List ℕ
+tableNumbers ControllerShrinkIsr = notInIsr ∷ noEpochLeft ∷ []
+tableNumbers ControllerElectLeader = notInIsr ∷ alreadySo ∷ noEpochLeft ∷ []
+tableNumbers BecomeLeader = noRequest ∷ wrongLeader ∷ epochNotHigher ∷ []
+tableNumbers BecomeFollower = noRequest ∷ wrongLeader ∷ epochNotHigher ∷ []
+tableNumbers LeaderWrite = notPresuming ∷ noIdLeft ∷ logFull ∷ []
+tableNumbers LeaderShrinkIsr = sameReplica ∷ notTrueLeader ∷ notInIsr ∷ caughtUp ∷ []
+tableNumbers LeaderExpandIsr = notTrueLeader ∷ alreadySo ∷ notCaughtUp ∷ []
+tableNumbers LeaderIncHighWatermark = notPresuming ∷ memberNotFollowing ∷ memberLacksOffset ∷ []
+tableNumbers FollowerReplicate = notPresuming ∷ notFollowing ∷ nothingToReplicate ∷ []
+tableNumbers Unknown = unknownKind ∷ []
 
-refuse-listed : (test : Bool) (number rest : ℕ) → Listed number → Listed rest → Listed (refuse test number rest)
-refuse-listed = listed-refuse (accepted ∷ actionNumbers)
+-- 0 or a number of the kind's row; a chain of such numbers gives such a number
+abbrev InRow : Kind → ℕ → Type 0
+InRow kind n = listed (accepted ∷ tableNumbers kind) n ≡ true
+
+refuse-row : (kind : Kind) (test : Bool) (number rest : ℕ) → InRow kind number → InRow kind rest → InRow kind (refuse test number rest)
+refuse-row kind = listed-refuse (accepted ∷ tableNumbers kind)
 
 module _ (s : State) where
-  leader-listed : (e : ℕ) (leader : Leader) → Listed (leaderRefusal s e leader)
-  unfolding leaderRefusal listed
-  leader-listed e None = refl
-  leader-listed e (Some b) = refuse-listed _ _ _ refl refl
+  leader-in-row : (e : ℕ) (leader : Leader) → InRow BecomeLeader (leaderRefusal s e leader)
+  unfolding leaderRefusal listed tableNumbers
+  leader-in-row e None = refl
+  leader-in-row e (Some b) = refuse-row BecomeLeader _ _ _ refl refl
 
-  table-listed : (kind : Kind) (a b e : ℕ) → Listed (tableRefusal kind s a b e)
+  pub table-listed : (kind : Kind) (a b e : ℕ) → InRow kind (tableRefusal kind s a b e)
   unfolding tableRefusal controllerShrinkIsrRefusal controllerElectLeaderRefusal becomeLeaderRefusal becomeFollowerRefusal leaderWriteRefusal
-      leaderShrinkIsrRefusal leaderExpandIsrRefusal leaderIncHighWatermarkRefusal followerReplicateRefusal listed
-  table-listed ControllerShrinkIsr a b e = refuse-listed _ _ _ refl (refuse-listed _ _ _ refl refl)
-  table-listed ControllerElectLeader a b e = refuse-listed _ _ _ refl (refuse-listed _ _ _ refl (refuse-listed _ _ _ refl refl))
-  table-listed BecomeLeader a b e = refuse-listed _ _ _ refl (leader-listed e (requestAt s e .leader))
-  table-listed BecomeFollower a b e = refuse-listed _ _ _ refl (refuse-listed _ _ _ refl (refuse-listed _ _ _ refl refl))
-  table-listed LeaderWrite a b e = refuse-listed _ _ _ refl (refuse-listed _ _ _ refl (refuse-listed _ _ _ refl refl))
-  table-listed LeaderShrinkIsr a b e = refuse-listed _ _ _ refl (refuse-listed _ _ _ refl (refuse-listed _ _ _ refl (refuse-listed _ _ _ refl refl)))
-  table-listed LeaderExpandIsr a b e = refuse-listed _ _ _ refl (refuse-listed _ _ _ refl (refuse-listed _ _ _ refl refl))
-  table-listed LeaderIncHighWatermark a b e = refuse-listed _ _ _ refl (refuse-listed _ _ _ refl refl)
-  table-listed FollowerReplicate a b e = refuse-listed _ _ _ refl (refuse-listed _ _ _ refl (refuse-listed _ _ _ refl refl))
+      leaderShrinkIsrRefusal leaderExpandIsrRefusal leaderIncHighWatermarkRefusal followerReplicateRefusal listed tableNumbers
+  table-listed ControllerShrinkIsr a b e = let row = refuse-row ControllerShrinkIsr in row _ _ _ refl (row _ _ _ refl refl)
+  table-listed ControllerElectLeader a b e =
+      let row = refuse-row ControllerElectLeader in row _ _ _ refl (row _ _ _ refl (row _ _ _ refl refl))
+  table-listed BecomeLeader a b e = refuse-row BecomeLeader _ _ _ refl (leader-in-row e (requestAt s e .leader))
+  table-listed BecomeFollower a b e = let row = refuse-row BecomeFollower in row _ _ _ refl (row _ _ _ refl (row _ _ _ refl refl))
+  table-listed LeaderWrite a b e = let row = refuse-row LeaderWrite in row _ _ _ refl (row _ _ _ refl (row _ _ _ refl refl))
+  table-listed LeaderShrinkIsr a b e =
+      let row = refuse-row LeaderShrinkIsr in row _ _ _ refl (row _ _ _ refl (row _ _ _ refl (row _ _ _ refl refl)))
+  table-listed LeaderExpandIsr a b e = let row = refuse-row LeaderExpandIsr in row _ _ _ refl (row _ _ _ refl (row _ _ _ refl refl))
+  table-listed LeaderIncHighWatermark a b e =
+      let row = refuse-row LeaderIncHighWatermark in row _ _ _ refl (row _ _ _ refl (row _ _ _ refl refl))
+  table-listed FollowerReplicate a b e = let row = refuse-row FollowerReplicate in row _ _ _ refl (row _ _ _ refl (row _ _ _ refl refl))
   table-listed Unknown a b e = refl
 
+-- each row is within the list of all
+row-within : (kind : Kind) → every (map (listed (accepted ∷ actionNumbers)) (accepted ∷ tableNumbers kind)) ≡ true
+unfolding listed every tableNumbers
+row-within ControllerShrinkIsr = refl
+row-within ControllerElectLeader = refl
+row-within BecomeLeader = refl
+row-within BecomeFollower = refl
+row-within LeaderWrite = refl
+row-within LeaderShrinkIsr = refl
+row-within LeaderExpandIsr = refl
+row-within LeaderIncHighWatermark = refl
+row-within FollowerReplicate = refl
+row-within Unknown = refl
+
 -- of an action on a state that meets the rules and is tidy
-action-listed : (s : State) (action : Action) → Listed (actionRefusal s action)
+action-listed : (s : State) (action : Action) → listed (accepted ∷ actionNumbers) (actionRefusal s action) ≡ true
 unfolding actionRefusal listed
 action-listed s action =
-    refuse-listed _ _ _ refl
-    (refuse-listed _ _ _ refl (table-listed s (kindOf (action .kind)) (action .a) (action .b) (action .e)))
+    let kind = kindOf (action .kind) in
+    let listed-by = listed-refuse (accepted ∷ actionNumbers) in
+    listed-by _ _ _ refl
+    (listed-by _ _ _ refl
+    (listed-within (accepted ∷ tableNumbers kind) (accepted ∷ actionNumbers) (tableRefusal kind s (action .a) (action .b) (action .e)) (row-within kind)
+    (table-listed s kind (action .a) (action .b) (action .e))))
 
 -- of one on a state that meets the rules
 pub met-listed : (s : State) (action : Action) → rules s ≡ true → listed (accepted ∷ actionNumbers) (refusal s action) ≡ true
@@ -120,10 +156,15 @@ refusal-listed s action =
     (listed-within (accepted ∷ actionNumbers) all (actionRefusal (tidy s) action) refl (action-listed (tidy s) action))
 
 -- ---- equal states get equal answers: no answer depends on unused room
-answer-same : (n : ℕ) (s t next : State) → Same s t → Same (answerBy n s next .state) (answerBy n t next .state)
+answer-same : (n member : ℕ) (s t next : State) → Same s t → Same (answerBy n member s next .state) (answerBy n member t next .state)
 unfolding answerBy byRefusal
-answer-same zero s t next m = same-refl next
-answer-same (suc n) s t next m = m
+answer-same zero member s t next m = same-refl next
+answer-same (suc n) member s t next m = m
+
+answer-member : (n member : ℕ) (s t next : State) → answerBy n member s next .member ≡ answerBy n member t next .member
+unfolding answerBy byRefusal
+answer-member zero member s t next = refl
+answer-member (suc n) member s t next = refl
 
 module _ (s t : State) (m : Same s t) (action : Action) where
   tidied : tidy s ≡ tidy t
@@ -133,9 +174,12 @@ module _ (s t : State) (m : Same s t) (action : Action) where
   unfolding refusal
   refusal-same = ap₂ (λ (n : ℕ) (u : State). firstRefusal n (actionRefusal u action)) (state-refusal-same s t m) tidied
 
-  pub act-same : (act s action .refusal ≡ act t action .refusal) × Same (act s action .state) (act t action .state)
+  pub act-same : (act s action .refusal ≡ act t action .refusal)
+      × (act s action .member ≡ act t action .member)
+      × Same (act s action .state) (act t action .state)
   unfolding act
   act-same = (
     act-number s action ∙ refusal-same ∙ sym (act-number t action),
-    rw (← refusal-same, ← tidied) (answer-same (refusal s action) s t (effect (tidy s) action) m),
+    rw (← refusal-same, ← tidied) (answer-member (refusal s action) _ s t (effect (tidy s) action)),
+    rw (← refusal-same, ← tidied) (answer-same (refusal s action) _ s t (effect (tidy s) action) m),
   )

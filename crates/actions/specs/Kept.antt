@@ -12,6 +12,7 @@ use Rattle.cluster.specs.Rules.{rules}
 use Rattle.cluster.specs.Predicates.{rules-iff}
 use Rattle.cluster.specs.Equality.{tidy-same, tidy-twice}
 use Rattle.cluster.specs.Unused.{rules-tidy}
+use Rattle.cluster.specs.Actions.{memberNamed}
 use Rattle.cluster.specs.Act.{kindOf, actionRefusal, effect, answerBy, step, act}
 use Rattle.cluster.specs.ActLaws.{act-met, accepts}
 use Rattle.cluster.specs.Accepted.{operands-of, action-accepted}
@@ -54,11 +55,13 @@ pub step-kept : (s : State) (action : Action) → rules s ≡ true → tidy s �
 unfolding step answerBy byRefusal
 step-kept s action h t = go (actionRefusal s action) refl
   where
-    go : (n : ℕ) → actionRefusal s action ≡ n → Kept s (answerBy n s (effect s action) .state)
+    go : (n : ℕ) → actionRefusal s action ≡ n → Kept s (answerBy n (memberNamed n s (action .a)) s (effect s action) .state)
     go zero e = effect-kept s action h t e
     go (suc n) e = kept-same s h t
 
 -- where the state meets the rules and is tidy, a step, which tests neither, answers what the action does
 pub step-is-act : (s : State) (action : Action) → rules s ≡ true → tidy s ≡ s → step s action ≡ act s action
 unfolding step
-step-is-act s action h t = ap (λ (u : State). answerBy (actionRefusal u action) s (effect u action)) (sym t) ∙ act-met s action h
+step-is-act s action h t =
+    ap (λ (u : State). answerBy (actionRefusal u action) (memberNamed (actionRefusal u action) u (action .a)) s (effect u action)) (sym t)
+    ∙ act-met s action h

@@ -1,41 +1,49 @@
 -- Kinds 5, 6 and 7, LeaderShrinkIsr, LeaderExpandIsr and LeaderIncHighWatermark: the source's action with replica a, and in kinds
 -- 5 and 6 also b, as its choices is the engine's. Assumes nothing.
 --
---   states-with isr     the model's local states, a's with this ISR
---   update-iff          QuorumUpdateLeaderAndIsr by a, with all else unchanged, holds exactly where a is the true leader and v is
---                       the meaning of the engine's updated state
---   leader-shrink-iff   LeaderShrinkIsr of a and b holds exactly where the engine accepts kind 5 and v is the meaning of its
---                       next state
---   leader-expand-iff   the same of LeaderExpandIsr and kind 6
---   AllHave offset      what LeaderIncHighWatermark asks of the members of a's ISR
---   hw-below-size       where the engine accepts kind 7, a's high watermark is below LogSize, so it is one of Offsets
---   inc-iff             LeaderIncHighWatermark of a holds exactly where the engine accepts kind 7 and v is the meaning of its
---                       next state
+--   states-with isr         the model's local states, a's with this ISR
+--   update-iff              QuorumUpdateLeaderAndIsr by a, with all else unchanged, holds exactly where a is the true leader and
+--                           v is the meaning of the engine's updated state
+--   leader-shrink-iff       LeaderShrinkIsr of a and b holds exactly where the engine accepts kind 5 and v is the meaning of its
+--                           next state
+--   leader-expand-iff       the same of LeaderExpandIsr and kind 6
+--   AllHave offset          what LeaderIncHighWatermark asks of the members of a's ISR
+--   all-have-iff            of a's high watermark it holds exactly where every member passes both of the engine's tests
+--   hw-below-size           where the engine accepts kind 7, a's high watermark is below LogSize, so it is one of Offsets
+--   inc-iff                 LeaderIncHighWatermark of a holds exactly where the engine accepts kind 7 and v is the meaning of its
+--                           next state
+--   IncEnabled k u a        LeaderIncHighWatermark of a is enabled: it leads from u to some state of the model
+--   inc-not-following-iff   kind 7 gives 48 exactly where a presumes and some member of its ISR does not follow it
+--   inc-lacks-offset-iff    it gives 49 exactly where a presumes, all members follow it and some member lacks the offset
+--   inc-enabled-iff         LeaderIncHighWatermark of a is enabled exactly where the engine accepts kind 7
+--   inc-refused-iff         kind 7 gives 48 or 49 exactly where a presumes and LeaderIncHighWatermark of a is not enabled
 use Prim.Native.Nat.{ℕ, _+_, _<_}
 use mathlib.Core.Path.{_≡_, refl, sym, _∙_, ap}
-use mathlib.Core.Bool.{true, false, not}
-use mathlib.Core.Logic.{_↔_, Iff·rfl}
+use mathlib.Core.Bool.{Bool, true, false, not}
+use mathlib.Core.Logic.{_↔_, _⊎_, inl, inr, Iff·rfl}
 use native.Mathlib.Omega.{arith}
 use lib.Dec.{eqb}
 use borrow.Author.Tests.{lt-ltb, ltb-true, eqb-false, ne-eqb, not-true}
-use Rattle.logic.specs.Tests.{refuted-iff, allBelow, all-at, all-by, and-left, and-right, and-both, implied, implies}
-use Rattle.parts.specs.Refusal.{accepted}
+use Rattle.logic.specs.Tests.{refuted-iff, and-left, and-right, and-both}
+use Rattle.parts.specs.Refusal.{accepted, memberNotFollowing, memberLacksOffset}
 use Rattle.parts.specs.Isr.{member, without, including}
-use Rattle.parts.specs.IsrLaws.{member-within}
 use Rattle.replica.specs.declared.Replica.{Replica}
 use Rattle.replica.specs.Change.{withHw, withIsr}
 use Rattle.cluster.specs.declared.Quorum.{Quorum}
 use Rattle.cluster.specs.declared.State.{State}
+use Rattle.cluster.specs.declared.MemberTest.the-variants.{IsFollowing, HasOffset}
 use Rattle.cluster.specs.Rules.{rules}
 use Rattle.cluster.specs.Predicates.{rules-iff}
 use Rattle.cluster.specs.State.{replicaCount, logSize, nextRecordId, replicaAt, withReplica, withQuorumIsr}
-use Rattle.cluster.specs.Actions.{replicaIsFollowing, isTrueLeader, isFollowerCaughtUp, quorumUpdateLeaderAndIsr, leaderShrinkIsrRefusal, leaderShrinkIsr, leaderExpandIsrRefusal, leaderExpandIsr, memberHasHw, leaderIncHighWatermarkRefusal, leaderIncHighWatermark}
+use Rattle.cluster.specs.Actions.{replicaPresumesLeadership, isTrueLeader, isFollowerCaughtUp, quorumUpdateLeaderAndIsr, leaderShrinkIsrRefusal, leaderShrinkIsr, leaderExpandIsrRefusal, leaderExpandIsr, membersPass, leaderIncHighWatermarkRefusal, leaderIncHighWatermark}
 use Rattle.cluster.specs.Accepted.{leader-shrink-accepted, leader-expand-accepted, advance-accepted, own-hw}
 use Rattle.actions.specs.Sound.{Sound}
-use Rattle.published.specs.KafkaReplication.{Constants, _isIn_, Replicas, minus, plus, exceptHw, exceptIsr, LocalState, LeaderAndIsr, ModelState, ReplicaLog·Offsets, ReplicaLog·HasOffset, ReplicaIsFollowing, IsFollowerCaughtUp, UnchangedNextRecordId, UnchangedReplicaLog, UnchangedNextLeaderEpoch, UnchangedRequests, QuorumUpdateLeaderAndIsr, LeaderShrinkIsrWith, LeaderExpandIsrWith, LeaderIncHighWatermarkWith}
+use Rattle.actions.specs.Named.{not-following-iff, lacks-offset-iff}
+use Rattle.published.specs.KafkaReplication.{Constants, _isIn_, Replicas, minus, plus, exceptHw, exceptIsr, LocalState, LeaderAndIsr, ModelState, ReplicaLog·Offsets, ReplicaLog·HasOffset, ReplicaPresumesLeadership, ReplicaIsFollowing, IsFollowerCaughtUp, UnchangedNextRecordId, UnchangedReplicaLog, UnchangedNextLeaderEpoch, UnchangedRequests, QuorumUpdateLeaderAndIsr, LeaderShrinkIsrWith, LeaderExpandIsrWith, LeaderIncHighWatermarkWith}
 use Rattle.published.specs.Meaning.{constantsOf, meaning, Means}
+use Rattle.published.specs.Equality.{same-model-refl}
 use Rattle.published.specs.Sets.{members-without, members-including}
-use Rattle.published.specs.Reading.{state-at, hw-at, log-at, quorum-at, following-iff, presumes-iff, true-leader-iff, caught-up-iff}
+use Rattle.published.specs.Reading.{state-at, hw-at, isr-at, log-at, quorum-at, presumes-iff, true-leader-iff, caught-up-iff, member-below, members-pass-iff, member-fails-iff}
 use Rattle.published.specs.Changes.{except-same, except-other, Becomes, put-iff, put-only-iff}
 
 module _ (s : State) (d : Sound (s .limits) s) (u : ModelState) (m : Means (s .limits) u s) (v : ModelState) (a : ℕ) (l : a < replicaCount (s .limits)) where
@@ -50,13 +58,6 @@ module _ (s : State) (d : Sound (s .limits) s) (u : ModelState) (m : Means (s .l
 
   met : rules s ≡ true
   met = rules-iff s .1 (d .rules)
-
-  isr-is : u .replicaState a .isr ≡ member (own .isr)
-  isr-is = ap (λ (p : LocalState). p .isr) (state-at s u m a l)
-
-  -- a member of a's ISR is a replica
-  member-below : (b : ℕ) → member (own .isr) b ≡ true → b < R
-  member-below = member-within R (own .isr) (d .rules .s1 .ranges .replicas) (d .rules .s2 .replicas a l .within)
 
   -- ---- QuorumUpdateLeaderAndIsr, with all else unchanged
   abbrev RestUnchanged : Type 0
@@ -128,10 +129,10 @@ module _ (s : State) (d : Sound (s .limits) s) (u : ModelState) (m : Means (s .l
         ↔ (b < R) × (leaderShrinkIsrRefusal s a b ≡ accepted) × Means (s .limits) v (leaderShrinkIsr s a b)
     unfolding leaderShrinkIsr
     leader-shrink-iff =
-        rw (isr-is, ← (members-without (own .isr) b)) (
+        rw (isr-at s u m a l, ← (members-without (own .isr) b)) (
           (λ t.
               let i = minus-iff .0 (t .0) in
-              let lb = member-below b (i .0) in
+              let lb = member-below s u m (d .rules) a l b (i .0) in
               let n = update-iff (without (own .isr) b) .0 (t .1 .1, (t .1 .2, t .1 .3, t .1 .4, t .1 .5)) in
               (lb, leader-shrink-accepted s a b .1 (record { other = i .1; leads = n .0; inside = i .0; behind = behind-iff lb .0 (t .1 .0) }), n .1)),
           (λ t.
@@ -153,7 +154,7 @@ module _ (s : State) (d : Sound (s .limits) s) (u : ModelState) (m : Means (s .l
         ↔ (b < R) × (leaderExpandIsrRefusal s a b ≡ accepted) × Means (s .limits) v (leaderExpandIsr s a b)
     unfolding leaderExpandIsr
     leader-expand-iff =
-        rw isr-is (
+        rw (isr-at s u m a l) (
           (λ t.
               let lb : b < R = ltb-true b R (t .0) in
               let n = update-iff (including (own .isr) b) .0 (rw (joined lb) (t .2 .1), (t .2 .2, t .2 .3, t .2 .4, t .2 .5)) in
@@ -186,28 +187,18 @@ module _ (s : State) (d : Sound (s .limits) s) (u : ModelState) (m : Means (s .l
         other-states = except-other (u .replicaState) a _;
       }
 
-  -- what the source asks of the members of a's ISR: each follows a and has the offset
+  -- what the source asks of the members of a's ISR: each follows a and has the offset. The engine tries the two one after the other
   abbrev AllHave : ℕ → Type 0
   AllHave offset =
       (follower : ℕ) → follower isIn u .replicaState a .isr → ReplicaIsFollowing u follower a × ReplicaLog·HasOffset u follower offset
 
-  all-have-iff : (offset : ℕ) → offset ≡ own .hw → AllHave offset ↔ allBelow R (memberHasHw s a) ≡ true
-  unfolding memberHasHw
+  all-have-iff : (offset : ℕ) → offset ≡ u .replicaState a .hw
+      → AllHave offset ↔ (membersPass IsFollowing s a ≡ true) × (membersPass HasOffset s a ≡ true)
   all-have-iff offset q =
-      rw (isr-is, q) (
-        (λ f.
-            all-by R (memberHasHw s a)
-            (λ i li.
-            implies (member (own .isr) i) _
-            (λ h.
-            let t = f i h in
-            and-both (following-iff s u m i a li .0 (t .0)) (lt-ltb (own .hw) (replicaAt s i .end) (omega (arith, t .1, log-at s u m i li .end)))))),
-        (λ e i h.
-            let li = member-below i h in
-            let t = implied (member (own .isr) i) _ (all-at R (memberHasHw s a) e i li) h in (
-              following-iff s u m i a li .1 (and-left (replicaIsFollowing s i a) _ t),
-              (let o = ltb-true (own .hw) (replicaAt s i .end) (and-right (replicaIsFollowing s i a) _ t) in omega (arith, o, log-at s u m i li .end)),
-            )),
+      let all-pass = members-pass-iff s u m (d .rules) a l in
+      rw q (
+        (λ f. (all-pass IsFollowing .0 (λ b h. f b h .0), all-pass HasOffset .0 (λ b h. f b h .1))),
+        (λ t b h. (all-pass IsFollowing .1 (t .0) b h, all-pass HasOffset .1 (t .1) b h)),
       )
 
   -- a leads itself, so it is in its own ISR and has the offset of its high watermark: that offset is below LogSize
@@ -222,7 +213,7 @@ module _ (s : State) (d : Sound (s .limits) s) (u : ModelState) (m : Means (s .l
       let presumes = presumes-iff s u m a l in (
         (λ t.
             let b = t .2 in (
-              advance-accepted s a .1 (presumes .0 (b .0), all-have-iff (t .0) (b .1 ∙ hw-at s u m a l) .0 (b .2)),
+              (let f = all-have-iff (t .0) (b .1) .0 (b .2) in advance-accepted s a .1 (presumes .0 (b .0), f .0, f .1)),
               put .0
                   (record {
                     replicaLog = b .5;
@@ -241,7 +232,7 @@ module _ (s : State) (d : Sound (s .limits) s) (u : ModelState) (m : Means (s .l
               (
                 presumes .1 (f .0),
                 sym (hw-at s u m a l),
-                all-have-iff (own .hw) refl .1 (f .1),
+                all-have-iff (own .hw) (sym (hw-at s u m a l)) .1 (f .1, f .2),
                 n .replicaState,
                 n .nextRecordId,
                 n .replicaLog,
@@ -251,3 +242,65 @@ module _ (s : State) (d : Sound (s .limits) s) (u : ModelState) (m : Means (s .l
               ),
             )),
       )
+
+-- ---- kind 7 where it is refused
+-- LeaderIncHighWatermark of a is enabled: with some offset it leads to some state of the model
+abbrev pub IncEnabled : Constants → ModelState → ℕ → Type 1
+IncEnabled k u a = (v : ModelState) × (offset : ℕ) × ReplicaLog·Offsets k offset × LeaderIncHighWatermarkWith k u v offset a
+
+module _ (s : State) (d : Sound (s .limits) s) (u : ModelState) (m : Means (s .limits) u s) (a : ℕ) (l : a < replicaCount (s .limits)) where
+  presumed-iff : ReplicaPresumesLeadership u a ↔ replicaPresumesLeadership s a ≡ true
+  presumed-iff = presumes-iff s u m a l
+
+  -- which of the source's two conditions on members fails
+  pub inc-not-following-iff : leaderIncHighWatermarkRefusal s a ≡ memberNotFollowing
+      ↔ ReplicaPresumesLeadership u a
+      × ((follower : ℕ) × follower isIn u .replicaState a .isr × ¬ (ReplicaIsFollowing u follower a))
+  inc-not-following-iff =
+      let fails = member-fails-iff s u m (d .rules) a l IsFollowing in (
+        (λ h. let t = not-following-iff s a .0 h in (presumed-iff .1 (t .0), fails .1 (t .1))),
+        (λ t. not-following-iff s a .1 (presumed-iff .0 (t .0), fails .0 (t .1))),
+      )
+
+  pub inc-lacks-offset-iff : leaderIncHighWatermarkRefusal s a ≡ memberLacksOffset
+      ↔ ReplicaPresumesLeadership u a
+      × ((follower : ℕ) → follower isIn u .replicaState a .isr → ReplicaIsFollowing u follower a)
+      × ((follower : ℕ) × follower isIn u .replicaState a .isr × ¬ (ReplicaLog·HasOffset u follower (u .replicaState a .hw)))
+  inc-lacks-offset-iff =
+      let follow = members-pass-iff s u m (d .rules) a l IsFollowing in
+      let fails = member-fails-iff s u m (d .rules) a l HasOffset in (
+        (λ h. let t = lacks-offset-iff s a .0 h in (presumed-iff .1 (t .0), follow .1 (t .1), fails .1 (t .2))),
+        (λ t. lacks-offset-iff s a .1 (presumed-iff .0 (t .0), follow .0 (t .1), fails .0 (t .2))),
+      )
+
+  -- where neither fails, the action of a is enabled
+  pub inc-enabled-iff : IncEnabled (constantsOf (s .limits)) u a ↔ leaderIncHighWatermarkRefusal s a ≡ accepted
+  inc-enabled-iff = (
+    (λ t. inc-iff s d u m (t .0) a l .0 (t .1, t .2, t .3) .0),
+    (λ h.
+        let v = meaning (leaderIncHighWatermark s a) in
+        let t = inc-iff s d u m v a l .1 (h, same-model-refl (constantsOf (s .limits)) v) in
+        (v, t .0, t .1, t .2)),
+  )
+
+  -- 48 or 49 is given
+  abbrev RefusedByMember : Type 0
+  RefusedByMember = (leaderIncHighWatermarkRefusal s a ≡ memberNotFollowing) ⊎ (leaderIncHighWatermarkRefusal s a ≡ memberLacksOffset)
+
+  one-fails : replicaPresumesLeadership s a ≡ true → (leaderIncHighWatermarkRefusal s a ≡ accepted → ⊥) → RefusedByMember
+  one-fails p n = go (membersPass IsFollowing s a) refl (membersPass HasOffset s a) refl
+    where
+      go : (b : Bool) → membersPass IsFollowing s a ≡ b → (c : Bool) → membersPass HasOffset s a ≡ c → RefusedByMember
+      go false e c f = inl (not-following-iff s a .1 (p, e))
+      go true e false f = inr (lacks-offset-iff s a .1 (p, e, f))
+      go true e true f = absurd (n (advance-accepted s a .1 (p, e, f)))
+
+  pub inc-refused-iff : RefusedByMember ↔ ReplicaPresumesLeadership u a × ¬ (IncEnabled (constantsOf (s .limits)) u a)
+  inc-refused-iff = (
+    (λ h.
+        elim h [
+          | inl e ↦ (inc-not-following-iff .0 e .0, λ t. omega (arith, e, inc-enabled-iff .0 t))
+          | inr e ↦ (inc-lacks-offset-iff .0 e .0, λ t. omega (arith, e, inc-enabled-iff .0 t))
+        ]),
+    (λ t. one-fails (presumed-iff .0 (t .0)) (λ h. t .1 (inc-enabled-iff .1 h))),
+  )

@@ -1,5 +1,19 @@
 -- The source's tests, of a state of the model that is the meaning of a state s, are the engine's tests of s.
 -- Assumes nothing.
+--
+--   leader-names-iff          the meaning of a leader is replica b exactly where it names b
+--   state-at, hw-at, isr-at   the local state of a replica, its high watermark and its ISR
+--   log-at, quorum-at         the log of a replica; the quorum
+--   following-iff             ReplicaIsFollowing holds exactly where the engine's test does
+--   presumes-iff              the same of ReplicaPresumesLeadership
+--   true-leader-iff           of IsTrueLeader
+--   epoch-above-iff           of an epoch that is above a replica's
+--   caught-up-iff             of IsFollowerCaughtUp, to an offset that is at most the leader's end
+--   member-below              a member of a's ISR is a replica
+--   PassesTest test u a b     ReplicaIsFollowing or HasOffset, as LeaderIncHighWatermark of a asks it of the member b
+--   passes-iff                it holds exactly where the engine's test does
+--   members-pass-iff          of every member of a's ISR it holds exactly where the engine's membersPass does
+--   member-fails-iff          of some member it does not hold exactly where membersPass does not
 use Prim.Native.Nat.{ℕ, _-_, _≤_, _<_}
 use mathlib.Core.Path.{_≡_, refl, sym, _∙_, ap, subst}
 use mathlib.Core.Bool.{Bool, true, false, not}
@@ -10,18 +24,24 @@ use native.Mathlib.Decide.{ℕ-discrete}
 use lib.Dec.{T}
 use lib.IntN.{pos}
 use lib.Signed.{_<ℤ_}
-use borrow.Author.Tests.{lt-ltb, le-leb, leb-true, not-false}
-use Rattle.logic.specs.Tests.{every-at, every-and, every-none, and-left, and-right, and-both, true-false}
+use borrow.Author.Tests.{lt-ltb, ltb-true, le-leb, leb-true, not-false}
+use Rattle.logic.specs.Tests.{every-at, every-and, every-none, and-left, and-right, and-both, true-false, implied, implies, refuted-iff, all-at, all-by}
 use Rattle.parts.specs.declared.Leader.{Leader}
 use Rattle.parts.specs.declared.Leader.the-variants.{Some}
+use Rattle.parts.specs.Isr.{member}
+use Rattle.parts.specs.IsrLaws.{member-within}
 use Rattle.parts.specs.EpochLaws.{higher-is, same-epoch-true, same-epoch-by}
 use Rattle.parts.specs.Leader.{names}
 use Rattle.parts.specs.LeaderLaws.{names-iff}
 use Rattle.cluster.specs.declared.State.{State}
+use Rattle.cluster.specs.declared.MemberTest.{MemberTest}
+use Rattle.cluster.specs.declared.MemberTest.the-variants.{IsFollowing, HasOffset}
 use Rattle.cluster.specs.Rules.{rules}
+use Rattle.cluster.specs.Predicates.{Rules}
 use Rattle.cluster.specs.State.{replicaCount, replicaAt}
-use Rattle.cluster.specs.Actions.{replicaPresumesLeadership, replicaIsFollowing, isTrueLeaderTests, isTrueLeader, isFollowerCaughtUp, epochNotAbove}
-use Rattle.published.specs.KafkaReplication.{Constants, LocalState, ModelState, SameLog, LogRecords, ReplicaPresumesLeadership, ReplicaIsFollowing, IsTrueLeader, IsFollowerCaughtUp}
+use Rattle.cluster.specs.Actions.{replicaPresumesLeadership, replicaIsFollowing, isTrueLeaderTests, isTrueLeader, isFollowerCaughtUp, epochNotAbove, passesTest, memberPasses, membersPass, firstNotPassing}
+use Rattle.actions.specs.Named.{smallest-member}
+use Rattle.published.specs.KafkaReplication.{Constants, _isIn_, LocalState, ModelState, SameLog, LogRecords, ReplicaLog·HasOffset, ReplicaPresumesLeadership, ReplicaIsFollowing, IsTrueLeader, IsFollowerCaughtUp}
 use Rattle.published.specs.Meaning.{constantsOf, leaderOf, logOf, localStateOf, quorumOf, meaning, Means}
 use Rattle.published.specs.Types.{log-record-ok}
 use Rattle.published.specs.OneToOne.{leader-of-injective}
@@ -35,6 +55,11 @@ leader-names-iff l b =
 true-T : (b : Bool) → T b ↔ b ≡ true
 true-T true = ((λ t. refl), (λ e. tt))
 true-T false = ((λ t. absurd t), (λ e. absurd (true-false (sym e))))
+
+-- ---- what LeaderIncHighWatermark of a asks of a member b of a's ISR: that it follows a, and that it has the offset of a's hw
+abbrev pub PassesTest : MemberTest → ModelState → ℕ → ℕ → Type 0
+PassesTest IsFollowing u a b = ReplicaIsFollowing u b a
+PassesTest HasOffset u a b = ReplicaLog·HasOffset u b (u .replicaState a .hw)
 
 module _ (s : State) (u : ModelState) (m : Means (s .limits) u s) where
   abbrev k : Constants
@@ -50,6 +75,9 @@ module _ (s : State) (u : ModelState) (m : Means (s .limits) u s) where
 
   pub hw-at : (r : ℕ) → r < R → u .replicaState r .hw ≡ replicaAt s r .hw
   hw-at r l = ap (λ (p : LocalState). p .hw) (state-at r l)
+
+  pub isr-at : (r : ℕ) → r < R → u .replicaState r .isr ≡ member (replicaAt s r .isr)
+  isr-at r l = ap (λ (p : LocalState). p .isr) (state-at r l)
 
   pub log-at : (r : ℕ) → r < R → SameLog (u .replicaLog r) (logOf (replicaAt s r))
   unfolding meaning
@@ -136,3 +164,38 @@ module _ (s : State) (u : ModelState) (m : Means (s .limits) u s) where
         → IsFollowerCaughtUp k u leader follower n ↔ isFollowerCaughtUp s leader follower offset ≡ true
     caught-up-iff n offset q low =
         subst (λ x. IsFollowerCaughtUp k u leader follower n ↔ isFollowerCaughtUp s leader follower x ≡ true) q (caught-up-at n (omega (arith, q, low)))
+
+  -- ---- the members of a's ISR
+  module _ (met : Rules s) (a : ℕ) (l : a < R) where
+    -- they are replicas
+    pub member-below : (b : ℕ) → member (replicaAt s a .isr) b ≡ true → b < R
+    member-below = member-within R (replicaAt s a .isr) (met .s1 .ranges .replicas) (met .s2 .replicas a l .within)
+
+    passes-iff : (test : MemberTest) (b : ℕ) → b < R → PassesTest test u a b ↔ passesTest test s a b ≡ true
+    unfolding passesTest
+    passes-iff IsFollowing b lb = following-iff b a lb
+    passes-iff HasOffset b lb =
+        rw (hw-at a l, log-at b lb .end) (lt-ltb (replicaAt s a .hw) (replicaAt s b .end), ltb-true (replicaAt s a .hw) (replicaAt s b .end))
+
+    -- each passes a test
+    pub members-pass-iff : (test : MemberTest)
+        → ((b : ℕ) → b isIn u .replicaState a .isr → PassesTest test u a b) ↔ membersPass test s a ≡ true
+    unfolding memberPasses
+    members-pass-iff test =
+        rw (isr-at a l) (
+          (λ f. all-by R (memberPasses test s a) (λ b lb. implies (member (replicaAt s a .isr) b) _ (λ h. passes-iff test b lb .0 (f b h)))),
+          (λ e b h.
+              let lb = member-below b h in
+              passes-iff test b lb .1 (implied (member (replicaAt s a .isr) b) _ (all-at R (memberPasses test s a) e b lb) h)),
+        )
+
+    -- some member does not
+    pub member-fails-iff : (test : MemberTest)
+        → ((b : ℕ) × b isIn u .replicaState a .isr × ¬ (PassesTest test u a b)) ↔ membersPass test s a ≡ false
+    member-fails-iff test = (
+      (λ t. refuted-iff (membersPass test s a) (members-pass-iff test) .0 (λ f. t .2 (f (t .0) (t .1)))),
+      (λ h.
+          let f = smallest-member test s a h in
+          let b = firstNotPassing test s a in
+          (b, rw (isr-at a l) (f .in-isr), refuted-iff (passesTest test s a b) (passes-iff test b (f .below)) .1 (f .fault))),
+    )

@@ -7,8 +7,8 @@ use mathlib.Core.List.{[], _∷_}
 use mathlib.Core.Option.{orElse}
 use lib.IntN.{pos}
 use lib.ListN.{replicate, set}
-use Rattle.logic.specs.Tests.{allBelow, every, firstFailing}
-use Rattle.logic.specs.Refuse.{refuse, byRefusal}
+use Rattle.logic.specs.Tests.{allBelow, every}
+use Rattle.logic.specs.Refuse.{refuse, refuseUnless, byRefusal}
 use Rattle.logic.specs.Search.{firstBelow, passing, firstThird, firstSecond, firstTriple}
 use Rattle.parts.specs.Refusal.{accepted}
 use Rattle.parts.specs.declared.Leader.the-variants.{Some}
@@ -22,7 +22,7 @@ use Rattle.replica.specs.Log.{recordInUse, logInUse, recordsAgree, recordAgrees
 use Rattle.cluster.specs.declared.State.{State}
 use Rattle.cluster.specs.declared.Action.{Action}
 use Rattle.cluster.specs.State.{stateOf, zeroRequest, withReplica, withQuorumIsr}
-use Rattle.cluster.specs.Rules.{between, inRange, rule1, leaderAndIsrInRange, replicaInRange, rule2, quorumMatchesRequest, rule3, rule4, replicaMatchesRequest, replicaMeetsS5, rule5, rule6, agreesWithAll, rule7, rules, brokenRule, ruleRefusal, stateRefusal}
+use Rattle.cluster.specs.Rules.{between, inRange, rule1, leaderAndIsrInRange, replicaInRange, rule2, quorumMatchesRequest, rule3, rule4, replicaMatchesRequest, replicaMeetsS5, rule5, rule6, agreesWithAll, rule7, rules, stateRefusal}
 use Rattle.cluster.specs.Actions.{replicaPresumesLeadership, replicaIsFollowing, isTrueLeader, isFollowerCaughtUp, quorumUpdateLeaderAndIsr, leaderShrinkIsrRefusal, leaderShrinkIsr}
 use Rattle.cluster.specs.Act.{kindOf, uses, operandBound, operandBounds, operandsFit, tableRefusal, tableEffect, actionRefusal, effect}
 use Rattle.questions.specs.Isr.{isrAsked, offsetsAsked, differAt, smallestFailure, isrAnswer, isrAnswerOf, checkIsr, askIsr, strongIsr}
@@ -55,5 +55,5 @@ unfolding differingIsrs askIsr checkIsr isrAnswerOf smallestFailure differAt off
     isTrueLeader replicaIsFollowing replicaPresumesLeadership rules rule7 agreesWithAll rule6 rule5 replicaMeetsS5 replicaMatchesRequest rule4
     rule3 quorumMatchesRequest rule2 replicaInRange leaderAndIsrInRange rule1 inRange between withReplica withQuorumIsr withIsr holdSameRecord
     sameRecord logsAgree recordAgrees recordsAgree logInUse recordInUse leaderNoneOrInIsr leaderBelow sameLeader epochUsed lastEpoch sameEpoch without
-    isrOf isrBelow fullIsr member firstTriple firstSecond firstThird passing firstBelow orElse refuse byRefusal stateRefusal ruleRefusal brokenRule firstFailing every allBelow
+    isrOf isrBelow fullIsr member firstTriple firstSecond firstThird passing firstBelow orElse refuse byRefusal stateRefusal refuseUnless every allBelow
 kind-five-breaks-strong = record { meets = refl; accepts = refl; held = refl; fails = refl }

@@ -56,7 +56,7 @@ checkIsr property s = isrAnswerOf (smallestFailure property s)
 abbrev pub isrRefused : ℕ → IsrAnswer
 isrRefused number = isrAnswer number false 0 0 0
 
--- what any state answers: "bad state 1"
+-- what any state answers: a "bad state" its number, 41 to 47
 unfoldable pub askIsr : Property → State → IsrAnswer
 askIsr property s = byRefusal (stateRefusal s) isrRefused (checkIsr property s)
 

@@ -1,5 +1,5 @@
--- Offer: "for a state and a kind, the smallest accepted action by (a, b, e), unused operands 0. Refusals: 1, then 2, then
--- 26 exactly when no operands are accepted." Assumes nothing.
+-- Offer: "for a state and a kind, the smallest accepted action by (a, b, e), unused operands 0." Refusals: 41 to 47 "in place of 1",
+-- "then 2, then 26 exactly when no operands are accepted." Assumes nothing.
 use Prim.Native.Nat.{ℕ}
 use mathlib.Core.Bool.{Bool}
 use mathlib.Core.Option.{Option, none, some}
@@ -44,7 +44,7 @@ offerOf (some t) = offerAnswer accepted (t .first) (t .second) (t .third)
 unfoldable pub findOffer : State → ℕ → OfferAnswer
 findOffer s kind = offerOf (smallestAccepted s kind (operandBounds (s .limits) (kindOf kind)))
 
--- "1, then 2"
+-- 41 to 47, "then 2"
 unfoldable pub offerRefusal : State → ℕ → ℕ
 offerRefusal s kind = firstRefusal (stateRefusal s) (refuse (ltb lastKind kind) unknownKind accepted)
 

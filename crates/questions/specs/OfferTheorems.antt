@@ -8,7 +8,7 @@
 --   offer-met, offer-unmet                   the answer of a state that meets the rules, and of one that does not
 --   offer-case                               the answer is one of the four cases
 --   offer-accepted                           what an accepted answer names is Offered
---   offer-broken, offer-unknown, offer-none  1, 2 and 26, each exactly where it belongs
+--   offer-broken, offer-unknown, offer-none  41 to 47, 2 and 26, each exactly where it belongs
 --   offer-broken-is                          a state that breaks a rule gets its number, with zeros beside it
 --   offer-zeros                              every refusal has zeros beside it
 --   accepted-bytes                           accepted operands are bytes
@@ -131,7 +131,7 @@ both-fail : {A B : Type 0} → (A → ⊥) → (B → ⊥) → A ↔ B
 both-fail f g = ((λ a. absurd (f a)), (λ b. absurd (g b)))
 
 -- ---- the offer
--- the numbers that it may give beside 0: "1, then 2, then 26"
+-- the numbers that it may give beside 0: 41 to 47, "then 2, then 26"
 abbrev pub offerNumbers : List ℕ
 offerNumbers = stateNumbers ++ unknownKind ∷ noOffer ∷ []
 

@@ -95,7 +95,7 @@ fn check_isr(property: Property, s: State) -> IsrAnswer
     answer
 }
 
-// What a property answers on any state: 1 and zeros where the state breaks a rule.
+// What a property answers on any state: 41 to 47 and zeros where the state breaks a rule.
 fn ask_isr(property: Property, s: State) -> IsrAnswer
     ensures { λ r. ⌜ r ≡ askIsr property s ⌝ }
 {
@@ -107,7 +107,7 @@ fn ask_isr(property: Property, s: State) -> IsrAnswer
 }
 
 // Weak ISR: each presuming replica and each member of its own ISR hold the same records below that replica's high
-// watermark. Answers that it holds, or the smallest failure; 1 where the state breaks a rule.
+// watermark. Answers that it holds, or the smallest failure; 41 to 47 where the state breaks a rule.
 pub fn weak_isr(s: State) -> IsrAnswer
     ensures { λ r. ⌜ r ≡ weakIsr s ⌝ }
 {
@@ -140,8 +140,8 @@ pub fn exposed(s: State) -> u8
     most
 }
 
-// The smallest accepted action of a kind, by (a, b, e); 1, 2 or 26 where there is none. It is looked for on the tidy state,
-// as `act` judges an action.
+// The smallest accepted action of a kind, by (a, b, e); 41 to 47, 2 or 26 where there is none. It is looked for on the tidy
+// state, as `act` judges an action.
 pub fn offer(s: State, kind: u8) -> OfferAnswer
     ensures { λ r. ⌜ r ≡ offer s kind ⌝ }
 {
