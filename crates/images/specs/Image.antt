@@ -92,7 +92,7 @@ unfoldable pub image : State → List ℕ
 image s = headerBytes s ++ (requestsBytes s ++ replicasBytes s)
 
 -- ---- writing into a lent buffer
--- "Writing: bad state 1, then buffer shorter than the image 24"
+-- "Writing: bad state" 41 to 47, "in place of 1", "then buffer shorter than the image 24"
 unfoldable pub writeRefusal : State → List ℕ → ℕ
 writeRefusal s buffer =
     firstRefusal (stateRefusal s)

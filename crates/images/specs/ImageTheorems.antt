@@ -10,16 +10,17 @@
 --   read-refused-zero    a refused read gives an all-zero state
 --   readNumbers          the numbers that reading may give beside 0
 --   read-listed          it gives no other
-use Prim.Native.Nat.{ℕ, zero, suc, _≤_}
+use Prim.Native.Nat.{ℕ, _≤_}
 use mathlib.Core.Path.{_≡_, refl, sym, _∙_, ap}
-use mathlib.Core.Bool.{Bool, true, false, cond}
+use mathlib.Core.Bool.{Bool, true, false}
 use mathlib.Core.List.{List, [], _∷_, _++_}
 use mathlib.Core.Logic.{_↔_}
 use native.Mathlib.Omega.{arith}
 use native.Mathlib.Decide.{ℕ-discrete, decLt}
 use lib.ListN.{length, take, drop}
 use lib.Seq.{take-append-seam}
-use Rattle.logic.specs.Refuse.{by-accepted, by-refused, by-number, by-first, by-other, listed, listed-refuse, listed-first}
+use Rattle.logic.specs.Tests.{every}
+use Rattle.logic.specs.Refuse.{by-accepted, by-refused, by-other, listed, listed-first, listed-within}
 use Rattle.logic.specs.Concat.{concatBelow, concat-cong}
 use Rattle.parts.specs.Refusal.{accepted, wrongMark, tooShort, badConfiguration, leftOver}
 use Rattle.parts.specs.Bytes.{Bytes}
@@ -30,15 +31,16 @@ use Rattle.cluster.specs.declared.Limits.{Limits}
 use Rattle.cluster.specs.declared.State.{State}
 use Rattle.cluster.specs.declared.Outcome.{Outcome}
 use Rattle.cluster.specs.State.{replicaCount, nextLeaderEpoch, replicaAt, Same, tidy, zeroState}
-use Rattle.cluster.specs.Rules.{rules, brokenRule, ruleRefusal, stateRefusal, stateNumbers}
+use Rattle.cluster.specs.Rules.{rules, stateRefusal, stateNumbers}
 use Rattle.cluster.specs.Equality.{same-sym, tidy-same, same-iff-tidy}
 use Rattle.cluster.specs.Unused.{rules-same, state-refusal-same}
 use Rattle.cluster.specs.Outcome.{answer, withZeros}
-use Rattle.cluster.specs.RuleLaws.{rules-bounded, rules-logs-bounded}
-use Rattle.images.specs.Image.{requestBytes, requestBytesAt, requestsBytes, logBytes, replicaHead, replicaBytes, replicaBytesAt, replicasBytes, headerBytes, image, writeImage, bufferAfter, headerWidth}
+use Rattle.cluster.specs.RuleLaws.{rules-bounded, rules-logs-bounded, state-listed}
+use Rattle.images.specs.Image.{requestBytes, requestBytesAt, requestsBytes, logBytes, replicaHead, replicaBytes, replicaBytesAt, replicasBytes, headerBytes, image, writeImage, bufferAfter}
 use Rattle.images.specs.declared.Written.{Written}
 use Rattle.images.specs.WriteLaws.{Writes, writes-broken, writes-short, writes-all}
-use Rattle.images.specs.Read.{Parsed, missing, endAbove, parsed, finished, readBody, readImage, headerRefusal, andThen, readRequests, readReplicas, headerState, refusalOf}
+use Rattle.images.specs.Read.{Parsed, missing, endAbove, parsed, finished, bodyOf, readBody, readImage, headerRefusal, refusalOf}
+use Rattle.images.specs.ReadLaws.{headerNumbers, header-listed, read-number, finished-number}
 use Rattle.images.specs.RoundTrip.{read-back, read-is-image, read-meets-rules}
 
 -- ---- equal states have one image
@@ -138,7 +140,7 @@ read-refused-zero bs h =
       | yes q ↦
           let e = by-accepted (headerRefusal bs) withZeros (readBody bs) q in
           ap (λ (o : Outcome). o .state) (sym e)
-          ∙ finished-zero (andThen (readRequests (headerState bs) (drop headerWidth bs)) readReplicas) (λ z. h (ap (λ (o : Outcome). o .refusal) (sym e) ∙ z))
+          ∙ finished-zero (bodyOf bs) (λ z. h (ap (λ (o : Outcome). o .refusal) (sym e) ∙ z))
       | no q ↦ ap (λ (o : Outcome). o .state) (sym (by-refused (headerRefusal bs) withZeros (readBody bs) q))
     ]
 
@@ -146,28 +148,19 @@ read-refused-zero bs h =
 abbrev pub readNumbers : List ℕ
 readNumbers = stateNumbers ++ wrongMark ∷ tooShort ∷ badConfiguration ∷ leftOver ∷ []
 
--- the number of a broken rule is one of those of a state
-rule-listed : (k : ℕ) → listed (accepted ∷ readNumbers) (ruleRefusal k) ≡ true
-unfolding ruleRefusal listed
-rule-listed zero = refl
-rule-listed (suc k) = refl
-
 finished-listed : (m : Parsed State) → listed (accepted ∷ readNumbers) (finished m .refusal) ≡ true
-unfolding finished refusalOf stateRefusal listed
+unfolding finished refusalOf listed every
 finished-listed missing = refl
-finished-listed endAbove = rule-listed 2
+finished-listed endAbove = refl
 finished-listed (parsed s (b ∷ bs)) = refl
 finished-listed (parsed s []) =
-    ap (listed (accepted ∷ readNumbers)) (by-number (λ (o : Outcome). o .refusal) (stateRefusal s) withZeros (answer accepted s) (λ k. refl) refl)
-    ∙ rule-listed (brokenRule s)
+    ap (listed (accepted ∷ readNumbers)) (finished-number s)
+    ∙ listed-within (accepted ∷ stateNumbers) (accepted ∷ readNumbers) (stateRefusal s) refl (state-listed s)
 
 pub read-listed : (bs : List ℕ) → listed (accepted ∷ readNumbers) (readImage bs .refusal) ≡ true
-unfolding readImage readBody headerRefusal listed
+unfolding listed every
 read-listed bs =
-    ap (listed (accepted ∷ readNumbers)) (sym (by-first (λ (o : Outcome). o .refusal) (headerRefusal bs) withZeros (readBody bs) (λ k. refl)))
-    ∙ listed-first (accepted ∷ readNumbers) (headerRefusal bs) (readBody bs .refusal)
-    (listed-refuse (accepted ∷ readNumbers) _ tooShort _ refl
-    (listed-refuse (accepted ∷ readNumbers) _ wrongMark _ refl
-    (listed-refuse (accepted ∷ readNumbers) _ badConfiguration _ refl
-    (listed-refuse (accepted ∷ readNumbers) _ (ruleRefusal 1) _ (rule-listed 1) refl))))
-    (finished-listed (andThen (readRequests (headerState bs) (drop headerWidth bs)) readReplicas))
+    ap (listed (accepted ∷ readNumbers)) (sym (read-number bs))
+    ∙ listed-first (accepted ∷ readNumbers) (headerRefusal bs) (finished (bodyOf bs) .refusal)
+    (listed-within (accepted ∷ headerNumbers) (accepted ∷ readNumbers) (headerRefusal bs) refl (header-listed bs))
+    (finished-listed (bodyOf bs))

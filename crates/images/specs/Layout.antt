@@ -1,5 +1,5 @@
 -- An image is read in two steps: whether all its parts are there and nothing is left over, and then the state of parts that are
--- known to be there. Here is what the functions of each step answer. Assumes nothing.
+-- known to be there. Here is what the functions of each step answer; bodyOf is passed on from Read. Assumes nothing.
 use Prim.Native.Nat.{ℕ, zero, suc, _+_, _*_}
 use mathlib.Core.List.{List, [], _∷_}
 use lib.ListN.{drop, set, replicate}
@@ -11,13 +11,13 @@ use Rattle.replica.specs.declared.Replica.{Replica}
 use Rattle.replica.specs.Replica.{zeroRecord, zeroReplica, withLog}
 use Rattle.replica.specs.ReplicaBytes.{headWidth, logRecordWidth, recordOf, endPlace}
 use Rattle.cluster.specs.declared.Request.{Request}
-use Rattle.cluster.specs.declared.State.{State}
 use Rattle.cluster.specs.State.{limitsOf, replicaCount, logSize, zeroRequest}
 use Rattle.images.specs.Image.{headerWidth, requestWidth, nextEpochPlace}
-use Rattle.images.specs.Read.{Parsed, missing, endAbove, parsed, refusalOf, andThen, fill, requestOf, replicaOfHead, readReplica, readRequests, readReplicas, headerState, headerRefusal}
+use Rattle.images.specs.Read.{Parsed, missing, endAbove, parsed, refusalOf, fill, requestOf, replicaOfHead, readReplica, headerRefusal}
+pub use Rattle.images.specs.Read.{bodyOf}
 
 -- ---- the first step: whether the parts are there
--- "a missing part 21 and an end above L 1 as met; bytes left over 23"
+-- "a missing part 21 and an end above L" 42 "as met; bytes left over 23"
 unfoldable pub wholeRefusal : {A : Type 0} → Parsed A → ℕ
 wholeRefusal {A} missing = refusalOf {A = A} missing
 wholeRefusal {A} endAbove = refusalOf {A = A} endAbove
@@ -27,10 +27,6 @@ wholeRefusal (parsed x []) = accepted
 -- the replicas, from a place of the image on
 abbrev pub replicasAt : List ℕ → ℕ → Parsed (List Replica)
 replicasAt bs at = fill (readReplica (logSize (limitsOf bs))) (replicaCount (limitsOf bs)) (replicate 5 zeroReplica) (drop at bs)
-
--- the requests and the replicas
-abbrev pub bodyOf : List ℕ → Parsed State
-bodyOf bs = andThen (readRequests (headerState bs) (drop headerWidth bs)) readReplicas
 
 -- the refusal by the first ten bytes, and then by the parts behind them
 unfoldable pub layoutRefusal : List ℕ → ℕ

@@ -4,6 +4,7 @@ pub mod WriteLaws
 pub mod Read
 pub mod Layout
 pub mod ReadLaws
+pub mod ReadNumbers
 pub mod PartLaws
 pub mod RoundTrip
 pub mod ImageTheorems

@@ -1,13 +1,13 @@
 -- What reading an image answers. "Reading: under ten bytes 21; mark 20; R, L, M, X out of range 22; next epoch or next id out
--- of range 1; then front to back, a missing part 21 and an end above L 1 as met; bytes left over 23; other state rules 1."
--- Assumes nothing.
+-- of range" 41; "then front to back, a missing part 21 and an end above L" 42 "as met; bytes left over 23; other state rules"
+-- 42 to 47. Of document 02 "41 to 47 stand for S1 to S7 in place of 1, in its place in every order". Assumes nothing.
 use Prim.Native.Nat.{ℕ, zero, suc}
 use mathlib.Core.Bool.{not, cond}
 use mathlib.Core.List.{List, [], _∷_}
 use lib.Dec.{ltb, leb}
 use lib.ListN.{length, drop, set, replicate}
 use Rattle.logic.specs.Refuse.{refuse, byRefusal}
-use Rattle.parts.specs.Refusal.{accepted, wrongMark, tooShort, badConfiguration, leftOver}
+use Rattle.parts.specs.Refusal.{accepted, wrongMark, tooShort, badConfiguration, leftOver, breaksS1, breaksS2}
 use Rattle.parts.specs.Epoch.{epochOfByte, lastEpoch}
 use Rattle.parts.specs.Leader.{leaderOfByte}
 use Rattle.parts.specs.Mark.{byteAt, marked}
@@ -20,7 +20,7 @@ use Rattle.cluster.specs.declared.State.{State}
 use Rattle.cluster.specs.declared.Outcome.{Outcome}
 use Rattle.cluster.specs.State.{limitsOf, replicaCount, logSize, nextLeaderEpoch, zeroRequest, stateOf, withRequests, withReplicas}
 use Rattle.cluster.specs.Outcome.{answer, withZeros}
-use Rattle.cluster.specs.Rules.{inRange, rule1, ruleRefusal, stateRefusal}
+use Rattle.cluster.specs.Rules.{inRange, rule1, stateRefusal}
 use Rattle.images.specs.Image.{markSecond, headerWidth, requestWidth, nextEpochPlace, nextIdPlace, quorumLeaderPlace, quorumIsrPlace}
 
 -- ---- a part of an image, read off the front of the bytes
@@ -30,10 +30,10 @@ pub data Parsed (A : Type 0) : Type 0 where
   endAbove : Parsed A
   parsed : A → List ℕ → Parsed A
 
--- the number of each: "a missing part 21 and an end above L 1", which is S2
+-- the number of each: "a missing part 21 and an end above L" 42, that of S2
 unfoldable pub refusalOf : {A : Type 0} → Parsed A → ℕ
 refusalOf missing = tooShort
-refusalOf endAbove = ruleRefusal 2
+refusalOf endAbove = breaksS2
 refusalOf (parsed x rest) = accepted
 
 -- one part, and then what follows it: "as met"
@@ -100,27 +100,30 @@ headerState bs =
     (record { epoch = lastEpoch (byteAt bs nextEpochPlace); leader = leaderOfByte (byteAt bs quorumLeaderPlace); isr = byteAt bs quorumIsrPlace })
     (replicate 16 zeroRequest) (replicate 5 zeroReplica)
 
--- "under ten bytes 21; mark 20; R, L, M, X out of range 22; next epoch or next id out of range 1": with R, L, M, X in range the
--- last is S1
+-- "under ten bytes 21; mark 20; R, L, M, X out of range 22; next epoch or next id out of range" 41: with R, L, M, X in range
+-- that is S1
 unfoldable pub headerRefusal : List ℕ → ℕ
 headerRefusal bs =
     refuse (ltb (length bs) headerWidth) tooShort
     (refuse (not (marked markSecond bs)) wrongMark
     (refuse (not (inRange (limitsOf bs))) badConfiguration
-    (refuse (not (rule1 (limitsOf bs) (byteAt bs nextEpochPlace) (byteAt bs nextIdPlace))) (ruleRefusal 1)
+    (refuse (not (rule1 (limitsOf bs) (byteAt bs nextEpochPlace) (byteAt bs nextIdPlace))) breaksS1
     accepted)))
 
 -- ---- the whole
--- "bytes left over 23; other state rules 1"
+-- "bytes left over 23; other state rules" by the first that is broken, 42 to 47: the first ten bytes have met S1
 unfoldable pub finished : Parsed State → Outcome
 finished missing = withZeros (refusalOf {A = State} missing)
 finished endAbove = withZeros (refusalOf {A = State} endAbove)
 finished (parsed s (b ∷ bs)) = withZeros leftOver
 finished (parsed s []) = byRefusal (stateRefusal s) withZeros (answer accepted s)
 
--- what follows the first ten bytes, front to back
+-- what follows the first ten bytes, front to back: the requests and the replicas
+abbrev pub bodyOf : List ℕ → Parsed State
+bodyOf bs = andThen (readRequests (headerState bs) (drop headerWidth bs)) readReplicas
+
 unfoldable pub readBody : List ℕ → Outcome
-readBody bs = finished (andThen (readRequests (headerState bs) (drop headerWidth bs)) readReplicas)
+readBody bs = finished (bodyOf bs)
 
 -- "a refused read .. gives an all-zero state"
 unfoldable pub readImage : List ℕ → Outcome

@@ -4,24 +4,29 @@
 --   part-back                         a part of n bytes that are there gives its value and the bytes behind it
 --   then-parsed, then-from            what follows a part that gave a value; and where something follows, the part gave a value
 --   parsed-value, parsed-rest         equal readings have equal values, and equal bytes behind them
+--   filled-from                       where an array was filled and put where it belongs: the array
 --   stored-below-more                 one place more of an array is filled
 --   Filling .. n i pos l              of n parts the first i are read into the array l, and the next one starts at byte pos
 --   filling-start, filling-more       the loop over the parts: its start, and a turn
 --   filling-refused .. filling-all    its ways out: a part is refused, bytes are left over, or all is there
 --   filling-next, filling-whole       where all parts are known to be there: the next one is, and nothing is left behind the last
+--   header-past                       the first ten bytes past the tests for 21, 20 and 22: what these say, and what decides then
 --   HeaderInRange bs                  the first ten bytes are there, with the mark and with numbers that meet S1
 --   header-in-range, header-sizes     they are so where they are not refused; S1 as bounds of these numbers
+--   headerNumbers, header-listed      the numbers that the first ten bytes may give beside 0; they give no other
 --   replica-missing .. replica-whole  a replica: its first five bytes missing, its end above L, its log missing, or all there
 --   ReplicaFits l bs at               the replica at this place has all its bytes, and its end is at most l
 --   replica-fits                      it is so where the replica is not refused
 --   body-short .. body-room           what follows the first ten bytes: missing requests, or all of them and then the replicas
+--   body-sizes                        S1 of the state that it gives is S1 of the first ten bytes
 --   layout-header, layout-body        the refusal of an image by its bytes is that of the first ten, then that of the parts
 --   LaidOut bs, laid-out              neither of the two refuses; it is so where the image is not refused by its bytes
 --   read-refused                      an image that is refused by its bytes
---   read-met, read-unmet              one whose parts are all there: its state, or the number of a state that breaks a rule
+--   read-met, read-unmet              one whose parts are all there: its state, or the number of the first rule that this breaks
+--   read-number, finished-number      the number that reading gives, by the first ten bytes, by what follows them, by the state
 use Prim.Native.Nat.{ℕ, zero, suc, _+_, _*_, _-_, _≤_, _<_}
 use mathlib.Core.Path.{_≡_, refl, sym, _∙_, ap}
-use mathlib.Core.Bool.{true, not, cond}
+use mathlib.Core.Bool.{Bool, true, not}
 use mathlib.Core.List.{List, [], _∷_}
 use native.Mathlib.Numerals.{add-one}
 use native.Mathlib.Nat.{mul-zero, mul-suc}
@@ -31,17 +36,18 @@ use lib.Dec.{leb, ltb}
 use lib.ListN.{length, drop, set, replicate, length-drop}
 use lib.Seq.{drop-drop}
 use borrow.Author.Tests.{le-leb, lt-leb, ltb-false, not-false}
-use Rattle.logic.specs.Refuse.{refuse-zero, refuse-not, first-yes, first-no, byRefusal, by-accepted, by-refused}
+use Rattle.logic.specs.Refuse.{refuse, refuse-other, firstRefusal, first-yes, first-no, byRefusal, by-accepted, by-refused, by-number, by-first, listed, listed-refuse}
 use Rattle.logic.specs.Table.{cond-true, cond-false}
-use Rattle.parts.specs.Refusal.{accepted, tooShort, leftOver}
+use Rattle.parts.specs.Refusal.{accepted, wrongMark, tooShort, badConfiguration, leftOver, breaksS1, breaksS2}
 use Rattle.parts.specs.Mark.{byteAt, marked}
 use Rattle.replica.specs.declared.Replica.{Replica}
 use Rattle.replica.specs.Replica.{withLog}
 use Rattle.replica.specs.ReplicaBytes.{headWidth, logRecordWidth, recordOf}
 use Rattle.cluster.specs.declared.State.{State}
-use Rattle.cluster.specs.State.{limitsOf, zeroRequest, withRequests, withReplicas}
-use Rattle.cluster.specs.Rules.{inRange, rule1, ruleRefusal, stateRefusal}
-use Rattle.cluster.specs.RuleLaws.{Sizes, sizes-of, rule-refused}
+use Rattle.cluster.specs.declared.Outcome.{Outcome}
+use Rattle.cluster.specs.State.{limitsOf, nextLeaderEpoch, nextRecordId, zeroRequest, withRequests, withReplicas}
+use Rattle.cluster.specs.Rules.{inRange, rule1, stateRefusal}
+use Rattle.cluster.specs.RuleLaws.{Sizes, sizes-of}
 use Rattle.cluster.specs.Outcome.{answer, withZeros}
 use Rattle.images.specs.Image.{markSecond, headerWidth, requestWidth}
 use Rattle.images.specs.Read.{Parsed, missing, endAbove, parsed, refusalOf, andThen, part, fill, fillIn, readRecord, requestOf, readRequest, replicaOfHead, readRequests, readReplicas, headerState, readLog, readLogWithin, readReplica, headerRefusal, finished, readBody, readImage}
@@ -85,6 +91,17 @@ parsed-value x y bs cs h = cc
 
 pub parsed-rest : {A : Type 0} (x y : A) (bs cs : List ℕ) → parsed x bs ≡ parsed y cs → bs ≡ cs
 parsed-rest x y bs cs h = cc
+
+-- where an array was filled and put where it belongs: the array
+pub filled-from : {A B : Type 0} (put : List A → B) (read : List ℕ → Parsed A) (n : ℕ) (array : List A) (bs : List ℕ) (y : B) (left : List ℕ)
+    → fillIn put read n array bs ≡ parsed y left → (l : List A) × (fill read n array bs ≡ parsed l left) × (put l ≡ y)
+unfolding fillIn
+filled-from put read n array bs y left h =
+    let f = then-from (fill read n array bs) (λ l rest. parsed (put l) rest) y left h in (
+      f .0,
+      f .2 ∙ ap (parsed (f .0)) (parsed-rest (put (f .0)) y (f .1) left (f .3)),
+      parsed-value (put (f .0)) y (f .1) left (f .3),
+    )
 
 -- ---- n parts of w bytes each, one after the other
 pub stored-below-more : {A : Type 0} (n : ℕ) (f : ℕ → A) (array : List A) → set (storedBelow n f array) n (f n) ≡ storedBelow (n + 1) f array
@@ -146,7 +163,7 @@ module _ {A : Type 0} where
   whole-parsed : (m : Parsed A) → wholeRefusal m ≡ accepted → (x : A) × (m ≡ parsed x [])
   unfolding wholeRefusal refusalOf
   whole-parsed missing h = absurd (omega arith)
-  whole-parsed endAbove h = absurd (rule-refused 1 h)
+  whole-parsed endAbove h = absurd (omega arith)
   whole-parsed (parsed x (b ∷ bs)) h = absurd (omega arith)
   whole-parsed (parsed x []) h = (x, refl)
 
@@ -233,6 +250,19 @@ module _ {A : Type 0} (read : List ℕ → Parsed A) (array : List A) (bs : List
         all ∙ ap (parsed l) (parsed-rest l (e .0) (drop pos bs) [] (sym all ∙ e .1))
 
 -- ---- the first ten bytes
+-- where their number is none of 21, 20 and 22, they pass the tests for these, and the test of S1 decides it
+pub header-past : (bs : List ℕ) (n : ℕ) → headerRefusal bs ≡ n → (tooShort ≡ n → ⊥) → (wrongMark ≡ n → ⊥) → (badConfiguration ≡ n → ⊥)
+    → (headerWidth ≤ length bs)
+    × (marked markSecond bs ≡ true)
+    × (inRange (limitsOf bs) ≡ true)
+    × (refuse (not (rule1 (limitsOf bs) (byteAt bs 6) (byteAt bs 7))) breaksS1 accepted ≡ n)
+unfolding headerRefusal
+header-past bs n h short mark limits =
+    let a = refuse-other (ltb (length bs) headerWidth) tooShort _ n h short in
+    let b = refuse-other (not (marked markSecond bs)) wrongMark _ n (a .1) mark in
+    let c = refuse-other (not (inRange (limitsOf bs))) badConfiguration _ n (b .1) limits in
+    (ltb-false (length bs) headerWidth (a .0), not-false (marked markSecond bs) (b .0), not-false (inRange (limitsOf bs)) (c .0), c .1)
+
 -- what they say where they are not refused
 pub record HeaderInRange (bs : List ℕ) : Type 0 where
   pub long : headerWidth ≤ length bs
@@ -240,20 +270,27 @@ pub record HeaderInRange (bs : List ℕ) : Type 0 where
   pub sizes : rule1 (limitsOf bs) (byteAt bs 6) (byteAt bs 7) ≡ true
 
 pub header-in-range : (bs : List ℕ) → headerRefusal bs ≡ accepted → HeaderInRange bs
-unfolding headerRefusal
 header-in-range bs h =
-    let a = refuse-zero (ltb (length bs) headerWidth) 20 _ h in
-    let b = refuse-zero (not (marked markSecond bs)) 19 _ (a .1) in
-    let c = refuse-zero (not (inRange (limitsOf bs))) 21 _ (b .1) in
-    let d = refuse-not (not (rule1 (limitsOf bs) (byteAt bs 6) (byteAt bs 7))) (ruleRefusal 1) _ (rule-refused 0) (c .1) in
+    let p = header-past bs accepted h (λ e. omega arith) (λ e. omega arith) (λ e. omega arith) in
+    let d = refuse-other (not (rule1 (limitsOf bs) (byteAt bs 6) (byteAt bs 7))) breaksS1 accepted accepted (p .3) (λ e. omega arith) in
     record {
-      long = ltb-false (length bs) headerWidth (a .0);
-      mark = not-false (marked markSecond bs) (b .0);
-      sizes = not-false (rule1 (limitsOf bs) (byteAt bs 6) (byteAt bs 7)) d;
+      long = p .0;
+      mark = p .1;
+      sizes = not-false (rule1 (limitsOf bs) (byteAt bs 6) (byteAt bs 7)) (d .0);
     }
 
 pub header-sizes : (bs : List ℕ) → HeaderInRange bs → Sizes (limitsOf bs) (byteAt bs 6) (byteAt bs 7)
 header-sizes bs h = sizes-of (limitsOf bs) (byteAt bs 6) (byteAt bs 7) (h .sizes)
+
+-- the numbers that they may give beside 0
+abbrev pub headerNumbers : List ℕ
+headerNumbers = tooShort ∷ wrongMark ∷ badConfiguration ∷ breaksS1 ∷ []
+
+pub header-listed : (bs : List ℕ) → listed (accepted ∷ headerNumbers) (headerRefusal bs) ≡ true
+unfolding headerRefusal listed
+header-listed bs =
+    let listed-by = listed-refuse (accepted ∷ headerNumbers) in
+    listed-by _ tooShort _ refl (listed-by _ wrongMark _ refl (listed-by _ badConfiguration _ refl (listed-by _ breaksS1 _ refl refl)))
 
 -- ---- a replica: its first five bytes, its end, its log
 module _ (l : ℕ) (bs : List ℕ) (at : ℕ) where
@@ -278,7 +315,7 @@ module _ (l : ℕ) (bs : List ℕ) (at : ℕ) where
       let e : part headWidth replicaOfHead (drop at bs) ≡ missing = part-missing headWidth replicaOfHead bs at k in
       sym (then-stops (part headWidth replicaOfHead (drop at bs)) (readLogWithin l) (λ z. omega (arith, sym (ap refusalOf e) ∙ z)) ∙ ap refusalOf e)
 
-  pub replica-above : at + headWidth ≤ length bs → l < byteAt (drop at bs) 4 → ruleRefusal 2 ≡ refusalOf (readReplica l (drop at bs))
+  pub replica-above : at + headWidth ≤ length bs → l < byteAt (drop at bs) 4 → breaksS2 ≡ refusalOf (readReplica l (drop at bs))
   unfolding readLogWithin refusalOf
   replica-above h k =
       ap refusalOf (sym (replica-head h
@@ -319,7 +356,7 @@ module _ (l : ℕ) (bs : List ℕ) (at : ℕ) where
         | yes k ↦ absurd (omega (arith, replica-missing k ∙ ok))
         | no k ↦
             elim (decLt l (byteAt (drop at bs) 4)) [
-              | yes a ↦ absurd (rule-refused 1 (replica-above (omega arith) a ∙ ok))
+              | yes a ↦ absurd (omega (arith, replica-above (omega arith) a ∙ ok))
               | no a ↦
                   elim (decLt (length bs - at) (replicaLength (drop at bs))) [
                     | yes b ↦ absurd (omega (arith, replica-short (omega arith) (omega arith) b ∙ ok))
@@ -371,6 +408,17 @@ module _ (bs : List ℕ) where
         | yes k ↦ absurd (omega (arith, body-short h k ∙ ok))
         | no k ↦ omega arith
       ]
+
+  -- S1 asks of the state only what the first ten bytes say
+  pub body-sizes : (s : State) (rest : List ℕ) → bodyOf bs ≡ parsed s rest
+      → rule1 (s .limits) (nextLeaderEpoch s) (nextRecordId s) ≡ rule1 (limitsOf bs) (byteAt bs 6) (byteAt bs 7)
+  unfolding readRequests readReplicas headerState
+  body-sizes s rest e =
+      let f = then-from (readRequests (headerState bs) (drop headerWidth bs)) readReplicas s rest e in
+      let requests = filled-from (withRequests (headerState bs)) readRequest _ _ _ (f .0) (f .1) (f .2) in
+      let replicas = filled-from (withReplicas (f .0)) (readReplica _) _ _ _ s rest (f .3) in
+      let s1 : State → Bool = λ u. rule1 (u .limits) (nextLeaderEpoch u) (nextRecordId u) in
+      ap s1 (sym (replicas .2)) ∙ ap s1 (sym (requests .2))
 
   -- ---- the whole image
   pub layout-header : (n : ℕ) → headerRefusal bs ≡ n → (n ≡ accepted → ⊥) → n ≡ layoutRefusal bs
@@ -424,3 +472,14 @@ module _ (bs : List ℕ) where
 
     pub read-unmet : (stateRefusal s ≡ accepted → ⊥) → withZeros (stateRefusal s) ≡ readImage bs
     read-unmet h = by-refused (stateRefusal s) withZeros (answer accepted s) h ∙ read-state
+
+-- ---- the number that reading gives
+-- that of the first ten bytes, and then that of what follows them
+pub read-number : (bs : List ℕ) → firstRefusal (headerRefusal bs) (finished (bodyOf bs) .refusal) ≡ readImage bs .refusal
+unfolding readImage readBody
+read-number bs = by-first (λ (o : Outcome). o .refusal) (headerRefusal bs) withZeros (readBody bs) (λ k. refl)
+
+-- which is that of the state where all parts are there and nothing is left over
+pub finished-number : (s : State) → finished (parsed s []) .refusal ≡ stateRefusal s
+unfolding finished
+finished-number s = by-number (λ (o : Outcome). o .refusal) (stateRefusal s) withZeros (answer accepted s) (λ k. refl) refl

@@ -10,7 +10,7 @@
 --   Accepted bs s                       what an accepted reading of bs as s went through
 --   read-meets-rules                    what is read meets the rules
 --   read-is-image                       bytes that are read are the image of what is read
-use Prim.Native.Nat.{ℕ, zero, suc, _^_, _≤_, _<_}
+use Prim.Native.Nat.{ℕ, _^_, _≤_, _<_}
 use mathlib.Core.Path.{_≡_, refl, sym, _∙_, ap, subst}
 use mathlib.Core.Bool.{Bool, true, false, not, cond}
 use mathlib.Core.List.{List, [], _∷_, _++_, append-nil}
@@ -25,7 +25,7 @@ use Rattle.logic.specs.Table.{table, tableFrom, cond-true}
 use Rattle.logic.specs.Concat.{concatBelow}
 use Rattle.parts.specs.declared.Leader.{Leader}
 use Rattle.parts.specs.declared.Leader.the-variants.{None, Some}
-use Rattle.parts.specs.Refusal.{accepted, wrongMark, tooShort, badConfiguration}
+use Rattle.parts.specs.Refusal.{accepted, wrongMark, tooShort, badConfiguration, leftOver, breaksS1, breaksS2}
 use Rattle.parts.specs.IsrLaws.{below-32}
 use Rattle.parts.specs.Epoch.{epochByte, epochOfByte, lastEpoch}
 use Rattle.parts.specs.Leader.{leaderByte, leaderOfByte}
@@ -41,16 +41,16 @@ use Rattle.cluster.specs.declared.Request.{Request}
 use Rattle.cluster.specs.declared.State.{State}
 use Rattle.cluster.specs.declared.Outcome.{Outcome}
 use Rattle.cluster.specs.State.{replicaCount, logSize, nextLeaderEpoch, nextRecordId, zeroRequest, requestAt, replicaAt, stateOf, withRequests, withReplicas, tidyRequestAt, tidyReplicaAt, tidy}
-use Rattle.cluster.specs.Rules.{inRange, rule1Tests, rule1, ruleTests, rules, ruleRefusal, stateRefusal}
-use Rattle.cluster.specs.RuleLaws.{rules-bounded, refusal-met, met-refusal, rule-refused}
+use Rattle.cluster.specs.Rules.{inRange, rule1Tests, rule1, ruleTests, rules, stateRefusal}
+use Rattle.cluster.specs.RuleLaws.{rules-bounded, refusal-met, met-refusal}
 use Rattle.cluster.specs.Predicates.{Named, rules-iff}
 use Rattle.cluster.specs.StateBytes.{named-small, replica-small}
 use Rattle.cluster.specs.Unused.{rules-tidy}
 use Rattle.cluster.specs.Outcome.{answer, withZeros}
 use Rattle.images.specs.Image.{markSecond, logBytes, requestBytes, requestBytesAt, requestsBytes, replicaHead, replicaBytes, replicaBytesAt, replicasBytes, headerBytes, image, headerWidth, requestWidth}
 use Rattle.images.specs.ImageLaws.{image-length}
-use Rattle.images.specs.Read.{Parsed, missing, endAbove, parsed, andThen, part, fill, fillIn, readRecord, requestOf, readRequest, replicaOfHead, readLog, readLogWithin, readReplica, readRequests, readReplicas, headerState, headerRefusal, finished, readBody, readImage, refusalOf}
-use Rattle.images.specs.ReadLaws.{part-back, then-parsed, then-from, parsed-value, parsed-rest, HeaderInRange, header-in-range, header-sizes}
+use Rattle.images.specs.Read.{Parsed, missing, endAbove, parsed, andThen, part, fill, fillIn, readRecord, requestOf, readRequest, replicaOfHead, readLog, readLogWithin, readReplica, readRequests, readReplicas, headerState, headerRefusal, finished, bodyOf, readBody, readImage, refusalOf}
+use Rattle.images.specs.ReadLaws.{part-back, then-parsed, then-from, filled-from, HeaderInRange, header-in-range, header-sizes}
 use Rattle.images.specs.PartLaws.{part-read-back, fill-back, Faithful, fill-read-back}
 
 -- ---- written, and read back
@@ -183,7 +183,7 @@ header-accepted s h =
     refuse-none (ltb (length (image s)) headerWidth) tooShort _ (le-ltb (length (image s)) headerWidth (omega (arith, image-length s)))
     (refuse-none (not (marked markSecond (image s))) wrongMark _ refl
     (refuse-none (not (inRange (s .limits))) badConfiguration _ (ap not range)
-    (refuse-none (not (rule1 (s .limits) (nextLeaderEpoch s) (nextRecordId s))) (ruleRefusal 1) accepted (ap not (tests 0)) refl)))
+    (refuse-none (not (rule1 (s .limits) (nextLeaderEpoch s) (nextRecordId s))) breaksS1 accepted (ap not (tests 0)) refl)))
 
 requests-back : (s : State) (rest : List ℕ) → rules s ≡ true
     → readRequests (withZeroArrays s) (requestsBytes s ++ rest) ≡ parsed (withRequests (withZeroArrays s) (table 16 (tidyRequestAt s))) rest
@@ -253,14 +253,11 @@ head-faithful bs rest x b h =
 -- the log of a replica whose array has 16 places
 log-faithful : (p x : Replica) (bs rest : List ℕ) → p .end ≤ 16 → length (p .log) ≡ 16 → Bytes bs → readLog p bs ≡ parsed x rest
     → (replicaHead x ≡ replicaHead p) × (bs ≡ logBytes x ++ rest)
-unfolding readLog fillIn logBytes
+unfolding readLog logBytes
 log-faithful p x bs rest h k b e =
-    let f = then-from (fill readRecord (p .end) (p .log) bs) (λ l left. parsed (withLog p l) left) x rest e in
-    let own : withLog p (f .0) ≡ x = parsed-value (withLog p (f .0)) x (f .1) rest (f .3) in
-    let r = fill-read-back readRecord recordBytes zeroRecord record-faithful (p .end) (p .log) bs (f .1) (f .0) (omega arith) b (f .2) in (
-      ap replicaHead (sym own),
-      r .bytes ∙ ap (λ (q : Replica). logBytes q ++ f .1) own ∙ ap (λ (l : List ℕ). logBytes x ++ l) (parsed-rest (withLog p (f .0)) x (f .1) rest (f .3)),
-    )
+    let f = filled-from (withLog p) readRecord (p .end) (p .log) bs x rest e in
+    let r = fill-read-back readRecord recordBytes zeroRecord record-faithful (p .end) (p .log) bs rest (f .0) (omega arith) b (f .1) in
+    (ap replicaHead (sym (f .2)), r .bytes ∙ ap (λ (q : Replica). logBytes q ++ rest) (f .2))
 
 within-faithful : (l : ℕ) (p x : Replica) (bs rest : List ℕ) → l ≤ 16 → length (p .log) ≡ 16 → Bytes bs → readLogWithin l p bs ≡ parsed x rest
     → (replicaHead x ≡ replicaHead p) × (bs ≡ logBytes x ++ rest)
@@ -286,26 +283,20 @@ replica-faithful l h bs rest x b e =
 -- the requests, and then the replicas, of the state that was read
 requests-faithful : (s t : State) (bs rest : List ℕ) → nextLeaderEpoch s ≤ 16 → length (s .requests) ≡ 16 → Bytes bs → readRequests s bs ≡ parsed t rest
     → (withRequests s (t .requests) ≡ t) × (bs ≡ requestsBytes t ++ rest)
-unfolding readRequests fillIn requestsBytes
+unfolding readRequests requestsBytes
 requests-faithful s t bs rest h k b e =
-    let f = then-from (fill readRequest (nextLeaderEpoch s) (s .requests) bs) (λ l left. parsed (withRequests s l) left) t rest e in
-    let own : withRequests s (f .0) ≡ t = parsed-value (withRequests s (f .0)) t (f .1) rest (f .3) in
-    let r = fill-read-back readRequest requestBytes zeroRequest request-faithful (nextLeaderEpoch s) (s .requests) bs (f .1) (f .0) (omega arith) b (f .2) in (
-      ap (λ (u : State). withRequests s (u .requests)) (sym own) ∙ own,
-      r .bytes ∙ ap (λ (u : State). requestsBytes u ++ f .1) own ∙ ap (λ (l : List ℕ). requestsBytes t ++ l) (parsed-rest (withRequests s (f .0)) t (f .1) rest (f .3)),
-    )
+    let f = filled-from (withRequests s) readRequest (nextLeaderEpoch s) (s .requests) bs t rest e in
+    let r = fill-read-back readRequest requestBytes zeroRequest request-faithful (nextLeaderEpoch s) (s .requests) bs rest (f .0) (omega arith) b (f .1) in
+    (ap (λ (u : State). withRequests s (u .requests)) (sym (f .2)) ∙ f .2, r .bytes ∙ ap (λ (u : State). requestsBytes u ++ rest) (f .2))
 
 replicas-faithful : (s t : State) (bs rest : List ℕ) → replicaCount (s .limits) ≤ 5 → logSize (s .limits) ≤ 16 → length (s .replicas) ≡ 5 → Bytes bs → readReplicas s bs ≡ parsed t rest
     → (withReplicas s (t .replicas) ≡ t) × (bs ≡ replicasBytes t ++ rest)
-unfolding readReplicas fillIn replicasBytes
+unfolding readReplicas replicasBytes
 replicas-faithful s t bs rest h m k b e =
-    let f = then-from (fill (readReplica (logSize (s .limits))) (replicaCount (s .limits)) (s .replicas) bs) (λ l left. parsed (withReplicas s l) left) t rest e in
-    let own : withReplicas s (f .0) ≡ t = parsed-value (withReplicas s (f .0)) t (f .1) rest (f .3) in
+    let f = filled-from (withReplicas s) (readReplica (logSize (s .limits))) (replicaCount (s .limits)) (s .replicas) bs t rest e in
     let r =
-    fill-read-back (readReplica (logSize (s .limits))) replicaBytes noReplica (replica-faithful (logSize (s .limits)) m) (replicaCount (s .limits)) (s .replicas) bs (f .1) (f .0) (omega arith) b (f .2) in (
-      ap (λ (u : State). withReplicas s (u .replicas)) (sym own) ∙ own,
-      r .bytes ∙ ap (λ (u : State). replicasBytes u ++ f .1) own ∙ ap (λ (l : List ℕ). replicasBytes t ++ l) (parsed-rest (withReplicas s (f .0)) t (f .1) rest (f .3)),
-    )
+    fill-read-back (readReplica (logSize (s .limits))) replicaBytes noReplica (replica-faithful (logSize (s .limits)) m) (replicaCount (s .limits)) (s .replicas) bs rest (f .0) (omega arith) b (f .1) in
+    (ap (λ (u : State). withReplicas s (u .replicas)) (sym (f .2)) ∙ f .2, r .bytes ∙ ap (λ (u : State). replicasBytes u ++ rest) (f .2))
 
 -- the first ten bytes
 header-faithful : (bs : List ℕ) → HeaderInRange bs → bs ≡ headerBytes (headerState bs) ++ drop headerWidth bs
@@ -322,9 +313,9 @@ header-faithful bs h =
 -- what was read whole is a state that meets the rules, with nothing left over
 finished-accepted : (m : Parsed State) (s : State) → finished m ≡ answer accepted s → (m ≡ parsed s []) × (rules s ≡ true)
 unfolding finished refusalOf
-finished-accepted missing s h = absurd (let z : _≡_ {A = ℕ} 21 0 = ap (λ (o : Outcome). o .refusal) h in omega arith)
-finished-accepted endAbove s h = absurd (rule-refused 1 (ap (λ (o : Outcome). o .refusal) h))
-finished-accepted (parsed t (b ∷ bs)) s h = absurd (let z : _≡_ {A = ℕ} 23 0 = ap (λ (o : Outcome). o .refusal) h in omega arith)
+finished-accepted missing s h = absurd (let z : tooShort ≡ accepted = ap (λ (o : Outcome). o .refusal) h in omega arith)
+finished-accepted endAbove s h = absurd (let z : breaksS2 ≡ accepted = ap (λ (o : Outcome). o .refusal) h in omega arith)
+finished-accepted (parsed t (b ∷ bs)) s h = absurd (let z : leftOver ≡ accepted = ap (λ (o : Outcome). o .refusal) h in omega arith)
 finished-accepted (parsed t []) s h =
     let p = by-zero (λ (o : Outcome). o .refusal) (stateRefusal t) withZeros (answer accepted t) (λ k. refl) (ap (λ (o : Outcome). o .refusal) h) in
     let own : t ≡ s = ap (λ (o : Outcome). o .state) (sym (p .1) ∙ h) in
@@ -333,14 +324,14 @@ finished-accepted (parsed t []) s h =
 -- an accepted reading went through the whole
 record Accepted (bs : List ℕ) (s : State) : Type 0 where
   header : HeaderInRange bs
-  body : andThen (readRequests (headerState bs) (drop headerWidth bs)) readReplicas ≡ parsed s []
+  body : bodyOf bs ≡ parsed s []
   meets : rules s ≡ true
 
 accepted-reading : (bs : List ℕ) (s : State) → readImage bs ≡ answer accepted s → Accepted bs s
 unfolding readImage readBody
 accepted-reading bs s h =
     let p = by-zero (λ (o : Outcome). o .refusal) (headerRefusal bs) withZeros (readBody bs) (λ k. refl) (ap (λ (o : Outcome). o .refusal) h) in
-    let f = finished-accepted (andThen (readRequests (headerState bs) (drop headerWidth bs)) readReplicas) s (sym (p .1) ∙ h) in
+    let f = finished-accepted (bodyOf bs) s (sym (p .1) ∙ h) in
     record { header = header-in-range bs (p .0); body = f .0; meets = f .1 }
 
 same-requests : (t s : State) → withReplicas t (s .replicas) ≡ s → requestsBytes t ≡ requestsBytes s

@@ -73,7 +73,7 @@ write-refused s buffer h =
       sym (by-refused n (λ k. buffer) (image s ++ drop (length (image s)) buffer) other),
     )
 
--- the numbers that it may give beside 0: "bad state 1, then buffer shorter than the image 24"
+-- the numbers that it may give beside 0: "bad state" 41 to 47, "then buffer shorter than the image 24"
 abbrev pub writeNumbers : List ℕ
 writeNumbers = stateNumbers ++ bufferShort ∷ []
 

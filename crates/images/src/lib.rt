@@ -40,8 +40,8 @@ pub struct Written {
     pub length: usize,
 }
 
-// Writes the image of a state at the front of a lent buffer; bytes beyond it stay. 1 where the state breaks a rule, then 24
-// where the buffer is shorter than the image; refused, it writes nothing.
+// Writes the image of a state at the front of a lent buffer; bytes beyond it stay. 41 to 47 where the state breaks a rule, by the
+// first that it breaks, then 24 where the buffer is shorter than the image; refused, it writes nothing.
 pub fn write_image(s: State, out: &mut [u8]) -> Written
     ensures { λ r. ⌜ (r ≡ writeImage s (now (out .entry))) × (now (out .exit) ≡ bufferAfter s (now (out .entry))) ⌝ }
 {

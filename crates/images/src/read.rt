@@ -30,7 +30,8 @@ use parts::Leader;
 use parts::mark;
 use parts::refusal::ACCEPTED;
 use parts::refusal::BAD_CONFIGURATION;
-use parts::refusal::BROKEN_STATE;
+use parts::refusal::BREAKS_S1;
+use parts::refusal::BREAKS_S2;
 use parts::refusal::LEFT_OVER;
 use parts::refusal::TOO_SHORT;
 use parts::refusal::WRONG_MARK;
@@ -131,7 +132,7 @@ fn replica_refusal(bytes: &[u8], at: usize, log_size: u8) -> u8
     }
     let end = bytes[at + END_PLACE];
     if log_size < end {
-        return BROKEN_STATE;
+        return BREAKS_S2;
     }
     if bytes.len() - at < HEAD_WIDTH + LOG_RECORD_WIDTH * (end as usize) {
         return TOO_SHORT;
@@ -202,7 +203,7 @@ fn header_refusal(bytes: &[u8]) -> u8
         return BAD_CONFIGURATION;
     }
     if !rules::sizes_in_range(c, bytes[NEXT_EPOCH_PLACE], bytes[NEXT_ID_PLACE]) {
-        return BROKEN_STATE;
+        return BREAKS_S1;
     }
     ACCEPTED
 }

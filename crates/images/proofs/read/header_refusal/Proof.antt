@@ -6,11 +6,11 @@ use lib.ListN.{length}
 use borrow.Author.Needs.{needs}
 use borrow.Author.Tests.{lt-ltb, le-ltb, not-true, not-false}
 use Rattle.logic.specs.Refuse.{refuse, refuse-yes, refuse-no}
-use Rattle.parts.specs.Refusal.{tooShort, wrongMark, badConfiguration}
+use Rattle.parts.specs.Refusal.{tooShort, wrongMark, badConfiguration, breaksS1}
 use Rattle.parts.specs.Mark.{byteAt, marked}
 use Rattle.cluster.specs.declared.Limits.{Limits}
 use Rattle.cluster.specs.State.{limitsOf}
-use Rattle.cluster.specs.Rules.{inRange, rule1, ruleRefusal}
+use Rattle.cluster.specs.Rules.{inRange, rule1}
 use Rattle.images.specs.Image.{markSecond, headerWidth}
 use Rattle.images.specs.Read.{headerRefusal}
 use Rattle.images.proofs.read.header_refusal.Statement.{statement}
@@ -80,12 +80,12 @@ sizes z =
     ap (λ (l : Limits). rule1 l (byteAt bs 6) (byteAt bs 7)) (sym (z .before .before .before .before .before .limits-at .ensures)) ∙ sym (z .sizes-in-range .ensures)
 
 returns-4 : tie.Need-returns-4
-unfolding headerRefusal ruleRefusal
+unfolding headerRefusal
 returns-4 c = refuse-yes _ _ _ (ap not (sizes (c .before) ∙ not-true _ (c .if4 .taken))) ∙ range (c .before .before .before .before) _
 
 returns-5 : tie.Need-returns-5
 unfolding headerRefusal
-returns-5 c = refuse-no _ (ruleRefusal 1) _ (ap not (sizes (c .before) ∙ not-false _ (c .if4 .left))) ∙ range (c .before .before .before .before) _
+returns-5 c = refuse-no _ breaksS1 _ (ap not (sizes (c .before) ∙ not-false _ (c .if4 .left))) ∙ range (c .before .before .before .before) _
 
 pub header-refusal-spec : {M : Type 1} → statement M
 header-refusal-spec =

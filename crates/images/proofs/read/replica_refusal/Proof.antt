@@ -2,7 +2,6 @@ use mathlib.Core.Path.{sym, ap}
 use native.Mathlib.Omega.{arith}
 use borrow.Author.Needs.{needs}
 use Rattle.parts.specs.Bytes.{byte-at}
-use Rattle.cluster.specs.Rules.{ruleRefusal}
 use Rattle.images.specs.Read.{refusalOf}
 use Rattle.images.specs.ReadLaws.{replica-missing, replica-above, replica-short, replica-whole}
 use Rattle.images.proofs.read.replica_refusal.Statement.{statement}
@@ -23,7 +22,6 @@ shared-slice-read-end : tie.Need-shared-slice-read-end
 shared-slice-read-end c = search needs
 
 returns-2 : tie.Need-returns-2
-unfolding ruleRefusal
 returns-2 c =
     let a = c .before .before .before .args in
     let e = byte-at (a .bytes .now) (a .at) 4 in
