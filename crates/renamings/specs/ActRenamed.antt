@@ -1,5 +1,5 @@
 -- An action of any four bytes on a tidy state that meets the rules: the renamed action on the renamed state gets the same
--- number, and the state handed back is the first one's, renamed. Assumes nothing.
+-- number, and the state handed back is the first one's, renamed; the member named is left out. Assumes nothing.
 use Prim.Native.Nat.{ℕ}
 use mathlib.Core.Path.{_≡_, refl, sym, ap, ap₂, _∙_}
 use mathlib.Core.Bool.{Bool, true, false, not}
@@ -17,7 +17,7 @@ use Rattle.cluster.specs.declared.ActionAnswer.{ActionAnswer}
 use Rattle.cluster.specs.declared.Kind.{Kind}
 use Rattle.cluster.specs.declared.Kind.the-variants.{ControllerShrinkIsr, ControllerElectLeader, BecomeLeader, BecomeFollower, LeaderWrite, LeaderShrinkIsr, LeaderExpandIsr, LeaderIncHighWatermark, FollowerReplicate, Unknown}
 use Rattle.cluster.specs.State.{replicaCount}
-use Rattle.cluster.specs.Act.{lastKind, kindOf, uses, operandBound, operandBounds, operandsFit, tableRefusal, tableEffect, actionRefusal, effect, actionAnswer, refusedOn, answerBy, step, act}
+use Rattle.cluster.specs.Act.{lastKind, kindOf, uses, operandBound, operandBounds, operandsFit, tableRefusal, tableEffect, actionRefusal, effect, actionAnswer, acceptedWith, withoutMember, refusedOn, answerBy, step, act}
 use Rattle.actions.specs.Kept.{step-is-act}
 use Rattle.renamings.specs.Renaming.{Renaming, ltb-to}
 use Rattle.renamings.specs.Rename.{renameState, renameOperand, renameAction, Met}
@@ -46,7 +46,7 @@ module _ (s : State) (a b c d e : ℕ) where
 -- ---- operands
 module _ {n : ℕ} (p : Renaming n) where
   -- a used operand is renamed, whether it is below n or not: from n on a renaming leaves it
-  operand-used : (used : Bool) (a : ℕ) → used ≡ true → renameOperand n (p .to) used a ≡ p .to a
+  pub operand-used : (used : Bool) (a : ℕ) → used ≡ true → renameOperand n (p .to) used a ≡ p .to a
   unfolding renameOperand
   operand-used used a h =
       rw h
@@ -97,16 +97,22 @@ module _ (s : State) (p : Renaming (replicaCount (s .limits))) (m : Met s) (acti
   unfolding effect renameAction
   next-renamed = ap (λ (r : ℕ × State). r .1) refusal-and-effect-renamed
 
-  -- an answer under the renaming: the same number, and its state renamed
-  pub step-renamed : step (ren s) (renameAction n (p .to) action) ≡ actionAnswer (step s action .refusal) (ren (step s action .state))
+  -- an answer without its member, its state renamed
+  abbrev renAnswer : ActionAnswer → ActionAnswer
+  renAnswer o = actionAnswer (o .refusal) 0 (ren (o .state))
+
+  -- an answer under the renaming, the member named left out: the same number, and its state renamed
+  step-renamed : withoutMember (step (ren s) (renameAction n (p .to) action)) ≡ renAnswer (step s action)
   unfolding step answerBy
   step-renamed =
-      ap₂ (λ (k : ℕ) (t : State). answerBy k (ren s) t) number-renamed next-renamed
-      ∙ sym (by-map (λ (o : ActionAnswer). actionAnswer (o .refusal) (ren (o .state))) (actionRefusal s action) (refusedOn s) (actionAnswer accepted (effect s action)))
+      by-map withoutMember (actionRefusal (ren s) (renameAction n (p .to) action)) (refusedOn (ren s) _)
+      (acceptedWith (effect (ren s) (renameAction n (p .to) action)))
+      ∙ ap₂ (λ (k : ℕ) (t : State). answerBy k 0 (ren s) t) number-renamed next-renamed
+      ∙ sym (by-map renAnswer (actionRefusal s action) (refusedOn s _) (acceptedWith (effect s action)))
 
-  pub act-renamed : act (ren s) (renameAction n (p .to) action) ≡ actionAnswer (act s action .refusal) (ren (act s action .state))
+  pub act-renamed : withoutMember (act (ren s) (renameAction n (p .to) action)) ≡ renAnswer (act s action)
   act-renamed =
       let r = met-renamed s m p in
-      sym (step-is-act (ren s) (renameAction n (p .to) action) (r .rules) (r .tidy))
+      ap withoutMember (sym (step-is-act (ren s) (renameAction n (p .to) action) (r .rules) (r .tidy)))
       ∙ step-renamed
-      ∙ ap (λ (o : ActionAnswer). actionAnswer (o .refusal) (ren (o .state))) (step-is-act s action (m .rules) (m .tidy))
+      ∙ ap renAnswer (step-is-act s action (m .rules) (m .tidy))

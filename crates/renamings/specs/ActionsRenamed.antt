@@ -2,13 +2,13 @@
 -- renamed effect. Assumes nothing.
 --
 --   ren t, renReplica q                        a state and a replica under the renaming p
---   presumes-renamed .. member-has-hw-renamed  the tests that the actions share: of p(a) in the renamed state as of a in the state
+--   presumes-renamed .. passes-renamed         the tests that the actions share: of p(a) in the renamed state as of a in the state
 --   refusal-renamed                            the table refuses the renamed action on the renamed state with the same number
 --   update-renamed .. isr-renamed              the changes that the effects are made of
 --   effect-renamed                             the effect of the renamed action on the renamed state is the effect, renamed
 use Prim.Native.Nat.{ℕ, _+_, _≤_, min}
-use mathlib.Core.Path.{_≡_, refl, sym, ap, _∙_}
-use mathlib.Core.Bool.{Bool, true, false}
+use mathlib.Core.Path.{_≡_, refl, sym, ap, ap₂, _∙_}
+use mathlib.Core.Bool.{Bool, true, false, not, _||_}
 use native.Mathlib.Nat.{le-refl}
 use lib.IntN.{ℤ, pos}
 use lib.ListN.{length}
@@ -16,16 +16,18 @@ use Rattle.logic.specs.Tests.{every-cong}
 use Rattle.logic.specs.Maps.{map-set}
 use Rattle.parts.specs.declared.Leader.{Leader}
 use Rattle.parts.specs.declared.Leader.the-variants.{None, Some}
-use Rattle.parts.specs.Isr.{without, including, isAlone}
+use Rattle.parts.specs.Isr.{member, without, including, isAlone}
 use Rattle.parts.specs.Leader.{names}
 use Rattle.replica.specs.declared.Replica.{Replica}
 use Rattle.replica.specs.Replica.{recordAt, tidyReplica}
 use Rattle.replica.specs.Change.{withHw, withIsr, withEnd, withRequest, append, truncateTo, truncateUnder, becomeFollowerAndTruncateTo}
 use Rattle.cluster.specs.declared.State.{State}
+use Rattle.cluster.specs.declared.MemberTest.{MemberTest}
+use Rattle.cluster.specs.declared.MemberTest.the-variants.{IsFollowing, HasOffset}
 use Rattle.cluster.specs.declared.Kind.{Kind}
 use Rattle.cluster.specs.declared.Kind.the-variants.{ControllerShrinkIsr, ControllerElectLeader, BecomeLeader, BecomeFollower, LeaderWrite, LeaderShrinkIsr, LeaderExpandIsr, LeaderIncHighWatermark, FollowerReplicate, Unknown}
 use Rattle.cluster.specs.State.{replicaCount, nextLeaderEpoch, nextRecordId, requestAt, replicaAt, withReplica, withQuorumIsr, withNextRecordId, controllerUpdateIsr}
-use Rattle.cluster.specs.Actions.{replicaPresumesLeadership, replicaIsFollowing, isTrueLeader, isFollowerCaughtUp, epochsUsedUp, requestMissing, epochNotAbove, controllerShrinkIsrRefusal, shrinkBy, controllerShrinkIsr, controllerElectLeaderRefusal, controllerElectLeader, leaderRefusal, becomeLeaderRefusal, leadBy, becomeLeader, becomeFollowerRefusal, becomeFollowerAt, becomeFollowerAndTruncateToHw, leaderWriteRefusal, nextRecord, leaderWrite, quorumUpdateLeaderAndIsr, leaderShrinkIsrRefusal, leaderShrinkIsr, leaderExpandIsrRefusal, leaderExpandIsr, memberHasHw, leaderIncHighWatermarkRefusal, leaderIncHighWatermark, followerReplicateRefusal, followerReplicate}
+use Rattle.cluster.specs.Actions.{replicaPresumesLeadership, replicaIsFollowing, isTrueLeader, isFollowerCaughtUp, epochsUsedUp, requestMissing, epochNotAbove, controllerShrinkIsrRefusal, shrinkBy, controllerShrinkIsr, controllerElectLeaderRefusal, controllerElectLeader, leaderRefusal, becomeLeaderRefusal, leadBy, becomeLeader, becomeFollowerRefusal, becomeFollowerAt, becomeFollowerAndTruncateToHw, leaderWriteRefusal, nextRecord, leaderWrite, quorumUpdateLeaderAndIsr, leaderShrinkIsrRefusal, leaderShrinkIsr, leaderExpandIsrRefusal, leaderExpandIsr, passesTest, memberPasses, membersPass, leaderIncHighWatermarkRefusal, leaderIncHighWatermark, followerReplicateRefusal, followerReplicate}
 use Rattle.cluster.specs.Act.{tableRefusal, tableEffect}
 use Rattle.renamings.specs.Renaming.{Renaming, eqb-to, all-to}
 use Rattle.renamings.specs.Rename.{renameLeader, renameIsr, renameRequest, renameReplica, renameState}
@@ -63,9 +65,19 @@ module _ (s : State) (p : Renaming (replicaCount (s .limits))) (five : replicaCo
   unfolding epochNotAbove
   not-above-renamed a e = rw (replica-at a) refl
 
-  member-has-hw-renamed : (a m : ℕ) → memberHasHw (ren s) (p .to a) (p .to m) ≡ memberHasHw s a m
-  unfolding memberHasHw
-  member-has-hw-renamed a m = rw (following-renamed m a, replica-at a, replica-at m, member-renamed p five (replicaAt s a .isr) m) refl
+  pub isr-member-renamed : (a m : ℕ) → member (replicaAt (ren s) (p .to a) .isr) (p .to m) ≡ member (replicaAt s a .isr) m
+  isr-member-renamed a m = rw (replica-at a) (member-renamed p five (replicaAt s a .isr) m)
+
+  pub passes-test-renamed : (test : MemberTest) (a m : ℕ) → passesTest test (ren s) (p .to a) (p .to m) ≡ passesTest test s a m
+  unfolding passesTest
+  passes-test-renamed IsFollowing a m = following-renamed m a
+  passes-test-renamed HasOffset a m = rw (replica-at a, replica-at m) refl
+
+  passes-renamed : (test : MemberTest) (a : ℕ) → membersPass test (ren s) (p .to a) ≡ membersPass test s a
+  unfolding memberPasses
+  passes-renamed test a =
+      all-to p (replicaCount (s .limits)) (le-refl (replicaCount (s .limits))) (memberPasses test (ren s) (p .to a)) (memberPasses test s a)
+      (λ m h. ap₂ (λ b c. not b || c) (isr-member-renamed a m) (passes-test-renamed test a m))
 
   -- ---- the refusals
   leader-refusal-renamed : (e : ℕ) (leader : Leader) → leaderRefusal (ren s) e (renameLeader (p .to) leader) ≡ leaderRefusal s e leader
@@ -86,13 +98,7 @@ module _ (s : State) (p : Renaming (replicaCount (s .limits))) (five : replicaCo
       rw (eqb-to p a b, true-leader-renamed a, replica-at a, member-renamed p five (replicaAt s a .isr) b, caught-up-renamed a b (replicaAt s a .end)) refl
   refusal-renamed LeaderExpandIsr a b e =
       rw (true-leader-renamed a, replica-at a, member-renamed p five (replicaAt s a .isr) b, caught-up-renamed a b (replicaAt s a .hw)) refl
-  refusal-renamed LeaderIncHighWatermark a b e =
-      rw (
-        presumes-renamed a,
-        all-to p (replicaCount (s .limits)) (le-refl (replicaCount (s .limits))) (memberHasHw (ren s) (p .to a)) (memberHasHw s a)
-            (λ m h. member-has-hw-renamed a m),
-      )
-      refl
+  refusal-renamed LeaderIncHighWatermark a b e = rw (presumes-renamed a, passes-renamed IsFollowing a, passes-renamed HasOffset a) refl
   refusal-renamed FollowerReplicate a b e = rw (presumes-renamed b, following-renamed a b, replica-at a, replica-at b) refl
   refusal-renamed Unknown a b e = refl
 

@@ -89,7 +89,7 @@ pub record Met (s : State) : Type 0 where
   pub rules : rules s ≡ true
   pub tidy : tidy s ≡ s
 
--- "else 27 (after 1)"
+-- "else 27", after 41 to 47
 unfoldable pub renameRefusal : State → List ℕ → ℕ
 renameRefusal s p =
     firstRefusal (stateRefusal s)

@@ -1,20 +1,25 @@
 -- Demand 3 of states and actions, for every state that meets the rules and every five places that are a renaming of its
 -- replicas. "Broker numbers are only names." Assumes nothing.
-use Prim.Native.Nat.{ℕ, _≤_}
+use Prim.Native.Nat.{ℕ, _≤_, _<_}
 use mathlib.Core.Path.{_≡_, refl, sym, ap, ap₂, _∙_, subst}
-use mathlib.Core.Bool.{true}
+use mathlib.Core.Bool.{true, false}
 use mathlib.Core.List.{List}
 use mathlib.Core.Logic.{_↔_}
+use native.Mathlib.Nat.{le-refl}
+use native.Mathlib.Omega.{arith}
 use Rattle.parts.specs.Isr.{member}
 use Rattle.cluster.specs.declared.State.{State}
 use Rattle.cluster.specs.declared.Action.{Action}
 use Rattle.cluster.specs.declared.ActionAnswer.{ActionAnswer}
+use Rattle.cluster.specs.declared.MemberTest.{MemberTest}
 use Rattle.cluster.specs.State.{nextLeaderEpoch, nextRecordId, requestAt, replicaCount, replicaAt, Same, tidy}
 use Rattle.cluster.specs.Rules.{rules}
 use Rattle.cluster.specs.Equality.{same-sym, same-iff-tidy, tidy-same}
-use Rattle.cluster.specs.Act.{actionAnswer, act}
+use Rattle.cluster.specs.Actions.{passesTest}
+use Rattle.cluster.specs.Act.{kindOf, uses, actionAnswer, withoutMember, act}
 use Rattle.actions.specs.Kept.{step-kept, step-is-act}
 use Rattle.actions.specs.Answers.{act-same}
+use Rattle.actions.specs.Named.{testNumber, SmallestMember, isr-tidy, passes-tidy, named-kind, named-below, member-named}
 use Rattle.questions.specs.declared.Property.{Property}
 use Rattle.questions.specs.declared.IsrAnswer.{IsrAnswer}
 use Rattle.questions.specs.Isr.{askIsr}
@@ -22,13 +27,14 @@ use Rattle.questions.specs.IsrTheorems.{isr-same}
 use Rattle.questions.specs.Exposed.{exposed, exposed-same}
 use Rattle.renamings.specs.Names.{newName, oldName, inverted, composed}
 use Rattle.renamings.specs.Rename.{renameIsr, renameQuorum, renameRequest, Renames, renameReplica, renameState, renameAction, renamed, Met}
-use Rattle.renamings.specs.Renaming.{Renaming}
+use Rattle.renamings.specs.Renaming.{Renaming, from-below}
 use Rattle.renamings.specs.Rows.{five, renamingOf}
 use Rattle.renamings.specs.Places.{state-five, composed-state, inverted-state}
 use Rattle.renamings.specs.PartsRenamed.{member-renamed, replica-renamed, request-renamed}
 use Rattle.renamings.specs.TidyRenamed.{met-tidy, at-most-five, fits, met-renamed}
 use Rattle.renamings.specs.Group.{rename-twice, rename-back}
-use Rattle.renamings.specs.ActRenamed.{act-renamed}
+use Rattle.renamings.specs.ActionsRenamed.{isr-member-renamed, passes-test-renamed}
+use Rattle.renamings.specs.ActRenamed.{operand-used, act-renamed}
 use Rattle.renamings.specs.QuestionsRenamed.{holds-renamed, exposed-renamed}
 
 -- ---- what is a renaming of a state goes by R alone, so it is one of the tidy state and of the renamed state too
@@ -49,6 +55,13 @@ renamed-five s p = state-five p (tidy s)
 pub renamed-same : (s t : State) (p : List ℕ) → Same s t → renamed p s ≡ renamed p t
 unfolding renamed
 renamed-same s t p m = ap (renameState (newName p) (oldName p)) (same-iff-tidy s t .0 m)
+
+-- under p, m is the new name of a member of a's ISR with the fault of the test, and no smaller new name is
+pub record SmallestNewName (p : List ℕ) (test : MemberTest) (s : State) (a m : ℕ) : Type 0 where
+  pub below : m < replicaCount (s .limits)
+  pub in-isr : member (replicaAt s a .isr) (oldName p m) ≡ true
+  pub fault : passesTest test s a (oldName p m) ≡ false
+  pub smaller : (j : ℕ) → j < m → member (replicaAt s a .isr) (oldName p j) ≡ true → passesTest test s a (oldName p j) ≡ true
 
 -- ---- of any state that meets the rules, by its tidy form
 module _ (s : State) (h : rules s ≡ true) (p : List ℕ) (f : Renames s p) where
@@ -99,22 +112,76 @@ module _ (s : State) (h : rules s ≡ true) (p : List ℕ) (f : Renames s p) whe
   pub renamed-member : (isr i : ℕ) → member (renameIsr (oldName p) isr) (newName p i) ≡ member isr i
   renamed-member = member-renamed renamingByP small
 
+  -- the action with p(i) for i
+  abbrev renamedAction : Action → Action
+  renamedAction = renameAction (replicaCount (s .limits)) (newName p)
+
   -- an action of any four bytes: the renamed action on the renamed state gets the same number, and the state handed back is
-  -- the first one's, renamed
+  -- the first one's, renamed; the member named is left out, and nothing else
   pub renamed-act : (action : Action)
-      → act (renamed p s) (renameAction (replicaCount (s .limits)) (newName p) action) ≡ actionAnswer (act s action .refusal) (renamed p (act s action .state))
+      → withoutMember (act (renamed p s) (renamedAction action)) ≡ actionAnswer (act s action .refusal) 0 (renamed p (act s action .state))
   unfolding renamed
   renamed-act action =
       let equal = act-same s (tidy s) (same-sym (tidy s) s (tidy-same s)) action in
       let state : tidy (act s action .state) ≡ act (tidy s) action .state =
-      same-iff-tidy (act s action .state) (act (tidy s) action .state) .0 (equal .1)
+      same-iff-tidy (act s action .state) (act (tidy s) action .state) .0 (equal .2)
       ∙ subst (λ (o : ActionAnswer). tidy (o .state) ≡ o .state) (step-is-act (tidy s) action (met .rules) (met .tidy))
       (step-kept (tidy s) action (met .rules) (met .tidy) .tidy) in
-      let here : act (renameState (newName p) (oldName p) (tidy s)) (renameAction (replicaCount (s .limits)) (newName p) action)
-      ≡ actionAnswer (act (tidy s) action .refusal) (renameState (newName p) (oldName p) (act (tidy s) action .state)) =
+      let here : withoutMember (act (renameState (newName p) (oldName p) (tidy s)) (renamedAction action))
+      ≡ actionAnswer (act (tidy s) action .refusal) 0 (renameState (newName p) (oldName p) (act (tidy s) action .state)) =
       unfold tidy in act-renamed (tidy s) renamingByP met action in
       here
-      ∙ ap₂ (λ (k : ℕ) (t : State). actionAnswer k (renameState (newName p) (oldName p) t)) (sym (equal .0)) (sym state)
+      ∙ ap₂ (λ (k : ℕ) (t : State). actionAnswer k 0 (renameState (newName p) (oldName p) t)) (sym (equal .0)) (sym state)
+
+  -- where 48 or 49 is given, the kind uses its first operand, so that is renamed
+  operand-named : (test : MemberTest) (action : Action) → act s action .refusal ≡ testNumber test → renamedAction action .a ≡ newName p (action .a)
+  unfolding renameAction tidy uses
+  operand-named test action e =
+      operand-used renamingByP (uses (kindOf (action .kind)) .a) (action .a) (ap (λ k. uses k .a) (named-kind test s action e))
+
+  -- of a replica a below R: what is asked of the renamed state by new names is what is asked of the state by old ones
+  module _ (a : ℕ) (la : a < replicaCount (s .limits)) where
+    five-replicas : replicaCount (s .limits) ≤ 5
+    five-replicas = unfold tidy in small
+
+    old-below : (j : ℕ) → j < replicaCount (s .limits) → oldName p j < replicaCount (s .limits)
+    old-below j l = unfold tidy in from-below renamingByP (replicaCount (s .limits)) (le-refl (replicaCount (s .limits))) j l
+
+    member-by-old-name : (j : ℕ) → member (replicaAt (renamed p s) (newName p a) .isr) j ≡ member (replicaAt s a .isr) (oldName p j)
+    unfolding renamed
+    member-by-old-name j =
+        ap (member (replicaAt (renameState (newName p) (oldName p) (tidy s)) (newName p a) .isr)) (sym (renamingByP .to-from j))
+        ∙ isr-member-renamed (tidy s) renamingByP small (fits (tidy s) met .five) a (oldName p j)
+        ∙ ap (λ isr. member isr (oldName p j)) (isr-tidy s five-replicas a la)
+
+    passes-by-old-name : (test : MemberTest) (j : ℕ) → j < replicaCount (s .limits)
+        → passesTest test (renamed p s) (newName p a) j ≡ passesTest test s a (oldName p j)
+    unfolding renamed
+    passes-by-old-name test j l =
+        ap (passesTest test (renameState (newName p) (oldName p) (tidy s)) (newName p a)) (sym (renamingByP .to-from j))
+        ∙ passes-test-renamed (tidy s) renamingByP small (fits (tidy s) met .five) test a (oldName p j)
+        ∙ passes-tidy s five-replicas a la test (oldName p j) (old-below j l)
+
+    smallest-by-old-name : (test : MemberTest) (m : ℕ) → SmallestMember test (renamed p s) (newName p a) m → SmallestNewName p test s a m
+    smallest-by-old-name test m f =
+        let l : m < replicaCount (s .limits) = subst (λ c. m < replicaCount c) (renamed-rest .0) (f .below) in
+        record {
+          below = l;
+          in-isr = sym (member-by-old-name m) ∙ f .in-isr;
+          fault = sym (passes-by-old-name test m l) ∙ f .fault;
+          smaller = λ j k h. sym (passes-by-old-name test j (omega (arith, l, k))) ∙ f .smaller j k (member-by-old-name j ∙ h);
+        }
+
+  -- what does hold of the member, of every answer by 48 or 49: the renamed action's has the same fault, and is the smallest new name
+  -- with it
+  pub renamed-member-named : (test : MemberTest) (action : Action) → act s action .refusal ≡ testNumber test
+      → SmallestNewName p test s (action .a) (act (renamed p s) (renamedAction action) .member)
+  renamed-member-named test action e =
+      let same : act (renamed p s) (renamedAction action) .refusal ≡ testNumber test =
+      ap (λ (o : ActionAnswer). o .refusal) (renamed-act action) ∙ e in
+      let named = member-named test (renamed p s) (renamedAction action) same in
+      smallest-by-old-name (action .a) (named-below test s action e) test (act (renamed p s) (renamedAction action) .member)
+      (subst (λ i. SmallestMember test (renamed p s) i (act (renamed p s) (renamedAction action) .member)) (operand-named test action e) named)
 
   -- weak and strong ISR hold of both states or of neither
   pub renamed-holds : (property : Property) → askIsr property (renamed p s) .holds ≡ askIsr property s .holds

@@ -11,7 +11,7 @@ use cluster::State;
 use parts::refusal::ACCEPTED;
 use parts::refusal::NOT_RENAMING;
 
-// The state under the renaming p, with zeros in its unused room. 1 where the state breaks a rule, then 27 where p is not a
+// The state under the renaming p, with zeros in its unused room. 41 to 47 where the state breaks a rule, then 27 where p is not a
 // renaming of its replicas; refused, the state as given.
 pub fn rename(s: State, p: [u8; 5]) -> Outcome
     ensures { λ r. ⌜ r ≡ rename s p ⌝ }

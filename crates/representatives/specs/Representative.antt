@@ -26,6 +26,6 @@ leastRenaming s = leastFrom (isRenaming (replicaCount (s .limits))) (imageUnder 
 unfoldable pub representative : State → State
 representative s = renamed (leastRenaming s) s
 
--- what asking for the representative answers: 1 and the state as given where it breaks a rule, else the representative
+-- what asking for the representative answers: 41 to 47 and the state as given where it breaks a rule, else the representative
 unfoldable pub represent : State → Outcome
 represent s = byRefusal (stateRefusal s) (asGiven s) (answer accepted (representative s))

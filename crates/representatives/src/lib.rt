@@ -107,8 +107,8 @@ fn least_renaming(s: State) -> [u8; 5]
     least_among(s, [0, 1, 2, 3, 4], &part, 0, 1, count)
 }
 
-// The representative of a state, with zeros in its unused room; 1 and the state as given where it breaks a rule. Places that are a
-// renaming of no replicas leave every name, and so the tidy state, which is then not renamed.
+// The representative of a state, with zeros in its unused room; 41 to 47 and the state as given where it breaks a rule. Places that
+// are a renaming of no replicas leave every name, and so the tidy state, which is then not renamed.
 pub fn representative(s: State) -> Outcome
     ensures { λ r. ⌜ r ≡ represent s ⌝ }
 {

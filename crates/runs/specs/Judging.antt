@@ -33,11 +33,12 @@ use Rattle.cluster.specs.declared.State.{State}
 use Rattle.cluster.specs.declared.Action.{Action}
 use Rattle.cluster.specs.State.{tidy}
 use Rattle.cluster.specs.Rules.{rules}
-use Rattle.cluster.specs.Act.{actionRefusal, actionAnswer, effect}
+use Rattle.cluster.specs.Act.{actionRefusal, actionAnswer, acceptedWith, effect}
 use Rattle.questions.specs.declared.Property.the-variants.{WeakIsr, StrongIsr}
 use Rattle.questions.specs.Exposed.{exposed}
 use Rattle.questions.specs.Doubt.{ReadsWithin, holdsAfterAction, exposesMore}
 use Rattle.questions.specs.DoubtTheorems.{reads-within, holds-after, exposes-no-more}
+use Rattle.runs.specs.RunRecordLaws.{names-none}
 use Rattle.runs.specs.declared.Tally.{Tally}
 use Rattle.runs.specs.declared.Verdict.{Verdict}
 use Rattle.runs.specs.Run.{configurationWidth, runRecordWidth, actionIn, actOn, runRecordsOf, Step, stepOn, handedBack, statesIn, Trace, traceBy, traceFrom, weakHolds, strongHolds, tallyOf, lastOf, verdictFrom}
@@ -64,11 +65,13 @@ tallyAfter tally step =
 
 -- the step of an accepted action that hands back a state
 abbrev pub acceptedStep : Action → State → Step
-acceptedStep action next = record { action = action; answer = actionAnswer accepted next }
+acceptedStep action next = record { action = action; answer = acceptedWith next }
 
 pub step-accepted : (s : State) (bytes : List ℕ) → actOn s bytes .refusal ≡ accepted
     → acceptedStep (actionIn bytes) (actOn s bytes .state) ≡ stepOn s bytes
-step-accepted s bytes ok = ap (λ (n : ℕ). record { action = actionIn bytes; answer = actionAnswer n (actOn s bytes .state) }) (sym ok)
+step-accepted s bytes ok =
+    ap₂ (λ (n member : ℕ). record { action = actionIn bytes; answer = actionAnswer n member (actOn s bytes .state) })
+    (sym ok) (sym (names-none s bytes))
 
 -- ---- it is the tally of the steps so far
 -- what one step more makes of the first failure, and of the greatest

@@ -40,7 +40,7 @@ use Rattle.cluster.specs.declared.Outcome.{Outcome}
 use Rattle.cluster.specs.State.{limitsOf, zeroState}
 use Rattle.cluster.specs.Outcome.{withZeros}
 use Rattle.cluster.specs.Fresh.{fresh}
-use Rattle.cluster.specs.Act.{actionOf, refusedOn, act}
+use Rattle.cluster.specs.Act.{actionOf, refusedOn, withoutMember, act}
 use Rattle.questions.specs.Isr.{weakIsr, strongIsr}
 use Rattle.questions.specs.Exposed.{exposed}
 use Rattle.runs.specs.declared.Tally.{Tally}
@@ -81,9 +81,9 @@ configure bytes = byRefusal (runRecordRefusal configurationWidth configurationMa
 abbrev pub actionIn : List ℕ → Action
 actionIn bytes = actionOf (byteAt bytes 2) (byteAt bytes 3) (byteAt bytes 4) (byteAt bytes 5)
 
--- the action's answer on the state before it, or 21 or 20 and that state
+-- the action's answer on the state before it, without the member that it names ("no verdict carries it"), or 21 or 20 and that state
 unfoldable pub actOn : State → List ℕ → ActionAnswer
-actOn s bytes = byRefusal (runRecordRefusal runRecordWidth actionMark bytes) (refusedOn s) (act s (actionIn bytes))
+actOn s bytes = byRefusal (runRecordRefusal runRecordWidth actionMark bytes) (refusedOn s 0) (withoutMember (act s (actionIn bytes)))
 
 -- ---- a run
 -- the part of it that holds its configuration

@@ -14,7 +14,7 @@ use Rattle.cluster.specs.declared.State.{State}
 use Rattle.cluster.specs.declared.ActionAnswer.{ActionAnswer}
 use Rattle.cluster.specs.State.{tidy}
 use Rattle.cluster.specs.Rules.{rules}
-use Rattle.cluster.specs.Act.{actionRefusal, refusedOn, effect, step, act}
+use Rattle.cluster.specs.Act.{actionRefusal, refusedOn, withoutMember, effect, step, act}
 use Rattle.cluster.specs.ActLaws.{answer-number, answer-zero}
 use Rattle.actions.specs.Kept.{Kept, kept-same, step-kept, step-is-act}
 use Rattle.runs.specs.declared.run_record.ActionRecord.{ActionRecord}
@@ -60,21 +60,28 @@ abbrev pub readAction : List ℕ → ActionRecord
 readAction bytes = record { refusal = markRefusal actionMark bytes; action = actionIn bytes }
 
 module _ (s : State) (bytes : List ℕ) where
-  -- a whole one answers as its action does
-  pub whole-acts : runRecordRefusal runRecordWidth actionMark bytes ≡ accepted → actOn s bytes ≡ act s (actionIn bytes)
+  -- a whole one answers as its action does, without the member
+  pub whole-acts : runRecordRefusal runRecordWidth actionMark bytes ≡ accepted → actOn s bytes ≡ withoutMember (act s (actionIn bytes))
   unfolding actOn
-  whole-acts whole = sym (by-accepted _ (refusedOn s) (act s (actionIn bytes)) whole)
+  whole-acts whole = sym (by-accepted _ (refusedOn s 0) (withoutMember (act s (actionIn bytes))) whole)
 
   -- any other by its own number, with the state before it
   pub unread : (runRecordRefusal runRecordWidth actionMark bytes ≡ accepted → ⊥)
-      → actOn s bytes ≡ refusedOn s (runRecordRefusal runRecordWidth actionMark bytes)
+      → actOn s bytes ≡ refusedOn s 0 (runRecordRefusal runRecordWidth actionMark bytes)
   unfolding actOn
-  unread torn = sym (by-refused _ (refusedOn s) (act s (actionIn bytes)) torn)
+  unread torn = sym (by-refused _ (refusedOn s 0) (withoutMember (act s (actionIn bytes))) torn)
+
+  -- neither names a member
+  pub names-none : actOn s bytes .member ≡ 0
+  unfolding actOn
+  names-none =
+      by-either (λ (a : ActionAnswer). a .member ≡ 0) (runRecordRefusal runRecordWidth actionMark bytes) (refusedOn s 0)
+      (withoutMember (act s (actionIn bytes))) (λ e. refl) (λ e. refl)
 
   -- so the number is the run record's own, and then the action's
   pub run-record-number : firstRefusal (runRecordRefusal runRecordWidth actionMark bytes) (act s (actionIn bytes) .refusal) ≡ actOn s bytes .refusal
   unfolding actOn
-  run-record-number = by-first (λ (a : ActionAnswer). a .refusal) _ (refusedOn s) (act s (actionIn bytes)) (λ k. refl)
+  run-record-number = by-first (λ (a : ActionAnswer). a .refusal) _ (refusedOn s 0) (withoutMember (act s (actionIn bytes))) (λ k. refl)
 
   -- it is 21 where the run record is too short
   pub short-number : length bytes < runRecordWidth → tooShort ≡ actOn s bytes .refusal
@@ -86,7 +93,7 @@ module _ (s : State) (bytes : List ℕ) where
   pub accepted-whole : actOn s bytes .refusal ≡ accepted → runRecordRefusal runRecordWidth actionMark bytes ≡ accepted
   accepted-whole ok = first-zero _ (act s (actionIn bytes) .refusal) (run-record-number ∙ ok) .0
 
-  pub accepted-acts : actOn s bytes .refusal ≡ accepted → actOn s bytes ≡ act s (actionIn bytes)
+  pub accepted-acts : actOn s bytes .refusal ≡ accepted → actOn s bytes ≡ withoutMember (act s (actionIn bytes))
   accepted-acts ok = whole-acts (accepted-whole ok)
 
 -- ---- on a state that meets the rules and is tidy
@@ -95,7 +102,7 @@ module _ (s : State) (bytes : List ℕ) (h : rules s ≡ true) (t : tidy s ≡ s
   act-number-is : act s (actionIn bytes) .refusal ≡ actionRefusal s (actionIn bytes)
   unfolding step
   act-number-is =
-      ap (λ (a : ActionAnswer). a .refusal) (sym (step-is-act s (actionIn bytes) h t)) ∙ answer-number _ s (effect s (actionIn bytes))
+      ap (λ (a : ActionAnswer). a .refusal) (sym (step-is-act s (actionIn bytes) h t)) ∙ answer-number _ _ s (effect s (actionIn bytes))
 
   -- the number of a run record that has its bytes, from what is read of it
   pub read-number : runRecordWidth ≤ length bytes
@@ -110,13 +117,13 @@ module _ (s : State) (bytes : List ℕ) (h : rules s ≡ true) (t : tidy s ≡ s
   pub accepted-state : actOn s bytes .refusal ≡ accepted → effect s (actionIn bytes) ≡ actOn s bytes .state
   unfolding step
   accepted-state ok =
-      ap (λ (a : ActionAnswer). a .state)
-      (answer-zero _ s (effect s (actionIn bytes)) (accepted-number ok) ∙ step-is-act s (actionIn bytes) h t ∙ sym (accepted-acts s bytes ok))
+      ap (λ (a : ActionAnswer). a .state) (answer-zero _ _ s (effect s (actionIn bytes)) (accepted-number ok) ∙ step-is-act s (actionIn bytes) h t)
+      ∙ ap (λ (a : ActionAnswer). a .state) (sym (accepted-acts s bytes ok))
 
   -- the state that it hands back keeps what s has, whatever it answers
   pub act-on-kept : Kept s (actOn s bytes .state)
   unfolding actOn
   act-on-kept =
-      by-either (λ (a : ActionAnswer). Kept s (a .state)) (runRecordRefusal runRecordWidth actionMark bytes) (refusedOn s) (act s (actionIn bytes))
+      by-either (λ (a : ActionAnswer). Kept s (a .state)) (runRecordRefusal runRecordWidth actionMark bytes) (refusedOn s 0) (withoutMember (act s (actionIn bytes)))
       (λ e. subst (λ (a : ActionAnswer). Kept s (a .state)) (step-is-act s (actionIn bytes) h t) (step-kept s (actionIn bytes) h t))
       (λ e. kept-same s h t)

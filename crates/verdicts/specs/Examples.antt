@@ -13,9 +13,9 @@ use Prim.Native.Nat.{ℕ}
 use mathlib.Core.Path.{_≡_, refl}
 use mathlib.Core.List.{List, [], _∷_, flatten}
 use mathlib.Core.Option.{orElse}
-use Rattle.logic.specs.Tests.{allBelow, every, firstFailing}
+use Rattle.logic.specs.Tests.{allBelow, every, firstFailing, firstFails}
 use Rattle.logic.specs.Table.{table, tableFrom}
-use Rattle.logic.specs.Refuse.{refuse, firstRefusal, byRefusal}
+use Rattle.logic.specs.Refuse.{refuse, refuseUnless, firstRefusal, byRefusal}
 use Rattle.logic.specs.Greatest.{greatestBelow, greatestOf}
 use Rattle.logic.specs.Search.{firstBelow, passing, firstThird, firstSecond, firstTriple}
 use Rattle.logic.specs.Pieces.{piecesUpTo, pieces}
@@ -29,9 +29,9 @@ use Rattle.replica.specs.Change.{withHw, withEnd, withRequest, append, truncate
 use Rattle.replica.specs.Log.{recordInUse, logInUse, recordsAgree, recordAgrees, logsAgree, sameRecord, holdSameRecord}
 use Rattle.cluster.specs.declared.State.{State}
 use Rattle.cluster.specs.State.{replicaAt, withReplicas, withReplica, withNextRecordId, controllerUpdateIsr, tidy}
-use Rattle.cluster.specs.Rules.{between, inRange, rule1, leaderAndIsrInRange, replicaInRange, rule2, quorumMatchesRequest, rule3, rule4, replicaMatchesRequest, replicaMeetsS5, rule5, rule6, agreesWithAll, rule7, brokenRule, ruleRefusal, stateRefusal}
+use Rattle.cluster.specs.Rules.{between, inRange, rule1, leaderAndIsrInRange, replicaInRange, rule2, quorumMatchesRequest, rule3, rule4, replicaMatchesRequest, replicaMeetsS5, rule5, rule6, agreesWithAll, rule7, stateRefusal}
 use Rattle.cluster.specs.Fresh.{freshState, limitsRefusal, fresh}
-use Rattle.cluster.specs.Actions.{replicaPresumesLeadership, replicaIsFollowing, epochsUsedUp, requestMissing, epochNotAbove, controllerShrinkIsrRefusal, shrinkBy, controllerShrinkIsr, controllerElectLeaderRefusal, controllerElectLeader, leaderRefusal, becomeLeaderRefusal, leadBy, becomeLeader, becomeFollowerRefusal, becomeFollowerAt, becomeFollowerAndTruncateToHw, leaderWriteRefusal, leaderWrite, memberHasHw, leaderIncHighWatermarkRefusal, leaderIncHighWatermark, followerReplicateRefusal, followerReplicate}
+use Rattle.cluster.specs.Actions.{replicaPresumesLeadership, replicaIsFollowing, epochsUsedUp, requestMissing, epochNotAbove, controllerShrinkIsrRefusal, shrinkBy, controllerShrinkIsr, controllerElectLeaderRefusal, controllerElectLeader, leaderRefusal, becomeLeaderRefusal, leadBy, becomeLeader, becomeFollowerRefusal, becomeFollowerAt, becomeFollowerAndTruncateToHw, leaderWriteRefusal, leaderWrite, passesTest, memberPasses, memberNamed, leaderIncHighWatermarkRefusal, leaderIncHighWatermark, followerReplicateRefusal, followerReplicate}
 use Rattle.cluster.specs.Act.{kindOf, uses, operandBound, operandBounds, operandsFit, tableRefusal, tableEffect, actionRefusal, effect, answerBy, refusal, act}
 use Rattle.questions.specs.Isr.{isrAsked, offsetsAsked, differAt, smallestFailure, isrAnswerOf, checkIsr, askIsr}
 use Rattle.questions.specs.Exposed.{exposed}
@@ -96,7 +96,7 @@ exchanged s =
 -- ---- the examples
 pub record MarkedExamples : Type 0 where
   -- 1. "4B4303040403 4B4101000000 4B4102000000 4B4103010000 4B4103020000 4B4104000000 4B4108010000 4B4107000000": "the run above is
-  -- refused 17 at 42"
+  -- refused" "at 42"; "examples 1 and 8 now give 49"
   pub one-bytes : flatten paperRun
       ≡ 75 ∷ 67 ∷ 3 ∷ 4 ∷ 4 ∷ 3
       ∷ 75 ∷ 65 ∷ 1 ∷ 0 ∷ 0 ∷ 0
@@ -108,7 +108,7 @@ pub record MarkedExamples : Type 0 where
       ∷ 75 ∷ 65 ∷ 7 ∷ 0 ∷ 0 ∷ 0
       ∷ []
   pub one : verdict paperRun
-      ≡ record { tally = record { accepted = 6; weak = 0; strong = 0; exposed = 0 }; refusal = 17; at = 42; state = paperState }
+      ≡ record { tally = record { accepted = 6; weak = 0; strong = 0; exposed = 0 }; refusal = 49; at = 42; state = paperState }
   -- 2. "its last state's representative has replicas 1 and 2 exchanged"
   pub two : representative (verdict paperRun .state) ≡ exchanged (verdict paperRun .state)
   -- 3. "insert 4B4108020000 before its last record: all 8 accepted, exposed 1"
@@ -130,9 +130,10 @@ pub record MarkedExamples : Type 0 where
   pub seven : numbers (configuration 1 4 4 3 ∷ elect 0 ∷ shrink 0 ∷ []) ≡ 2 ∷ 0 ∷ 18 ∷ 0 ∷ 0 ∷ 0 ∷ []
   pub seven-leader : verdict (configuration 1 4 4 3 ∷ elect 0 ∷ shrink 0 ∷ []) .state .quorum .leader ≡ None
   pub seven-isr : verdict (configuration 1 4 4 3 ∷ elect 0 ∷ shrink 0 ∷ []) .state .quorum .isr ≡ 1
-  -- 8. "configuration of 6, elect 0, leader 0, then replicate 0 from 0: 19; in its place advance 0: 17"
+  -- 8. "configuration of 6, elect 0, leader 0, then replicate 0 from 0: 19; in its place advance 0", which gives 49
+  -- now
   pub eight : numbers (configuration 1 4 4 3 ∷ elect 0 ∷ leader 0 ∷ replicateFrom 0 0 ∷ []) ≡ 2 ∷ 19 ∷ 18 ∷ 0 ∷ 0 ∷ 0 ∷ []
-  pub eight-advance : numbers (configuration 1 4 4 3 ∷ elect 0 ∷ leader 0 ∷ advance 0 ∷ []) ≡ 2 ∷ 17 ∷ 18 ∷ 0 ∷ 0 ∷ 0 ∷ []
+  pub eight-advance : numbers (configuration 1 4 4 3 ∷ elect 0 ∷ leader 0 ∷ advance 0 ∷ []) ≡ 2 ∷ 49 ∷ 18 ∷ 0 ∷ 0 ∷ 0 ∷ []
   -- 9. "R=2, L=4, M=4, X=0, fresh, elect 0 accepted, shrink 0 then 4"
   pub nine : numbers (configuration 2 4 4 0 ∷ elect 0 ∷ shrink 0 ∷ []) ≡ 1 ∷ 4 ∷ 12 ∷ 0 ∷ 0 ∷ 0 ∷ []
 
@@ -140,11 +141,12 @@ pub marked-examples : MarkedExamples
 unfolding judge judgeBy lastOf traceFrom traceBy opening lengthRefusal actOn configure runRecordRefusal markRefusal paperState
     paperReplica exposed askIsr checkIsr isrAnswerOf smallestFailure differAt offsetsAsked isrAsked fresh limitsRefusal
     freshState act refusal answerBy effect actionRefusal tableEffect tableRefusal operandsFit operandBounds operandBound uses
-    kindOf followerReplicate followerReplicateRefusal leaderIncHighWatermark leaderIncHighWatermarkRefusal memberHasHw
+    kindOf followerReplicate followerReplicateRefusal leaderIncHighWatermark leaderIncHighWatermarkRefusal memberPasses passesTest
+    memberNamed firstFails
     leaderWrite leaderWriteRefusal becomeFollowerAndTruncateToHw becomeFollowerAt becomeFollowerRefusal becomeLeader leadBy
     becomeLeaderRefusal leaderRefusal controllerElectLeader controllerElectLeaderRefusal controllerShrinkIsr shrinkBy
     controllerShrinkIsrRefusal epochNotAbove requestMissing epochsUsedUp replicaIsFollowing replicaPresumesLeadership
-    stateRefusal ruleRefusal brokenRule rule7 agreesWithAll rule6 rule5 replicaMeetsS5 replicaMatchesRequest rule4 rule3
+    stateRefusal refuseUnless rule7 agreesWithAll rule6 rule5 replicaMeetsS5 replicaMatchesRequest rule4 rule3
     quorumMatchesRequest rule2 replicaInRange leaderAndIsrInRange rule1 inRange between tidy controllerUpdateIsr
     withNextRecordId withReplica holdSameRecord sameRecord logsAgree recordAgrees recordsAgree logInUse recordInUse
     becomeFollowerAndTruncateTo truncateUnder truncateTo append withRequest withEnd withHw tidyReplica leaderNoneOrInIsr leaderBelow

@@ -49,9 +49,9 @@ pub record RenamesRun (run p : List ℕ) : Type 0 where
   pub renaming : isRenaming count p ≡ true
 
 -- ---- a trace of n replicas: each action and each answer is renamed; the numbers stay
--- an answer: its number stays, and its state is renamed
+-- an answer, which names no member in a run: its number stays, and its state is renamed
 abbrev pub renameAnswer : List ℕ → ActionAnswer → ActionAnswer
-renameAnswer p a = actionAnswer (a .refusal) (renamed p (a .state))
+renameAnswer p a = actionAnswer (a .refusal) 0 (renamed p (a .state))
 
 abbrev pub renameStep : ℕ → List ℕ → Step → Step
 renameStep n p step = record { action = renameAction n (newName p) (step .action); answer = renameAnswer p (step .answer) }

@@ -47,7 +47,7 @@ use Rattle.cluster.specs.State.{replicaCount, logSize, maxRecords, maxLeaderEpo
 use Rattle.cluster.specs.Rules.{inRange}
 use Rattle.cluster.specs.Outcome.{answer, withZeros}
 use Rattle.cluster.specs.Fresh.{freshState, limitsRefusal, fresh}
-use Rattle.cluster.specs.Act.{act}
+use Rattle.cluster.specs.Act.{withoutMember, act}
 use Rattle.actions.specs.Kept.{Kept, kept-same}
 use Rattle.published.specs.KafkaReplication.{Constants, ModelState, FiniteBehaviour}
 use Rattle.published.specs.Meaning.{constantsOf, meaning}
@@ -73,7 +73,7 @@ Whole bytes = runRecordRefusal runRecordWidth actionMark bytes ≡ accepted
 -- actions one after another from s on: each with what it answers
 unfoldable pub stepsAfter : State → List Action → List Step
 stepsAfter s [] = []
-stepsAfter s (x ∷ xs) = record { action = x; answer = act s x } ∷ stepsAfter (act s x .state) xs
+stepsAfter s (x ∷ xs) = record { action = x; answer = withoutMember (act s x) } ∷ stepsAfter (act s x .state) xs
 
 steps-states : (s : State) (actions : List Action) → statesIn (stepsAfter s actions) ≡ statesAfter s actions
 unfolding stepsAfter statesAfter
@@ -100,7 +100,7 @@ unfolding stepsAfter flatten lastOf
 traced-by s from bytes records t r =
     trace-cases from (stepOn s bytes) t (Traced s from (bytes ∷ records))
     (λ ok.
-    let acts : actOn s bytes ≡ act s (actionIn bytes) = accepted-acts s bytes ok in
+    let acts : actOn s bytes ≡ withoutMember (act s (actionIn bytes)) = accepted-acts s bytes ok in
     let next : actOn s bytes .state ≡ act s (actionIn bytes) .state = ap (λ (a : ActionAnswer). a .state) acts in
     record {
       few = omega (arith, r .few);

@@ -28,7 +28,7 @@ use Rattle.cluster.specs.declared.Action.{Action}
 use Rattle.cluster.specs.declared.ActionAnswer.{ActionAnswer}
 use Rattle.cluster.specs.State.{replicaCount, tidy}
 use Rattle.cluster.specs.Rules.{rules}
-use Rattle.cluster.specs.Act.{actionOf, act}
+use Rattle.cluster.specs.Act.{actionOf, withoutMember, act}
 use Rattle.actions.specs.Kept.{Kept, kept-same}
 use Rattle.questions.specs.declared.Property.the-variants.{WeakIsr, StrongIsr}
 use Rattle.questions.specs.Exposed.{exposed}
@@ -95,7 +95,7 @@ act-on-renamed s h p f bytes =
     elim (ℕ-discrete (runRecordRefusal runRecordWidth actionMark bytes) accepted) [
       | yes e ↦ ap (actOn (renamed p s)) (whole-renamed n (newName p) bytes e)
           ∙ whole-acts (renamed p s) (withOperands bytes new) (operands-refusal bytes new ∙ e)
-          ∙ ap (act (renamed p s)) (operands-action bytes new (run-record-whole actionMark bytes runRecordWidth .0 e .0))
+          ∙ ap (λ (action : Action). withoutMember (act (renamed p s) action)) (operands-action bytes new (run-record-whole actionMark bytes runRecordWidth .0 e .0))
           ∙ renamed-act s h p f (actionIn bytes)
           ∙ ap (renameAnswer p) (sym (whole-acts s bytes e))
       | no e ↦ ap (actOn (renamed p s)) (other-stays n (newName p) bytes e)

@@ -10,8 +10,8 @@
 --   refused-by                         a refused run has the number of its next run record on its last state
 --   accepted-opened, accepted-at       a run that is not refused has an accepted configuration, and stops at its end
 --   runRecordNumbers, openingNumbers   the numbers of a run record's length and mark, and those before the first action
---   runNumbers                         all numbers that refuse a run: 2 to 22 and 25
---   run-listed                         no other number refuses a run
+--   runNumbers                         all numbers that refuse a run: 2 to 16, 18 to 22, 25, 48 and 49
+--   run-listed, run-meets-rules        no other number refuses a run, and none of a state rule
 --   mostActions                        10,921, the most actions that a run can hold
 --   Small v                            the bounds of the numbers of the verdict v
 --   verdict-small                      Small holds of the verdict of every run
@@ -27,13 +27,13 @@ use lib.Dec.{ltb}
 use lib.ListN.{length, take, drop, length-take, length-drop, length-map}
 use lib.Seq.{drop-drop}
 use Rattle.logic.specs.Tests.{every, every-at, firstFailing, failing-within}
-use Rattle.logic.specs.Refuse.{listed, listed-refuse, listed-first, listed-within, refuse, firstRefusal}
+use Rattle.logic.specs.Refuse.{listed, listed-refuse, listed-first, listed-within, listed-apart, refuse, firstRefusal}
 use Rattle.logic.specs.Pieces.{pieces-few, piece-at, front-pieces}
 use Rattle.parts.specs.Refusal.{accepted, wrongMark, tooShort, runTooLong}
 use Rattle.parts.specs.Mark.{marked}
 use Rattle.cluster.specs.declared.State.{State}
 use Rattle.cluster.specs.State.{replicaCount}
-use Rattle.cluster.specs.Rules.{rules}
+use Rattle.cluster.specs.Rules.{rules, stateNumbers}
 use Rattle.cluster.specs.Predicates.{rules-iff}
 use Rattle.cluster.specs.Fresh.{fresh}
 use Rattle.cluster.specs.FreshLaws.{freshNumbers, fresh-listed}
@@ -164,7 +164,7 @@ pub accepted-at : (run : List ℕ) → judge run .refusal ≡ accepted → judge
 accepted-at run h = accepted-iff-all run (accepted-opened run h) .0 h .1
 
 -- ---- which numbers refuse a run
--- those of a run record's length and mark, those before the first action, and all: 2 to 22 and 25
+-- those of a run record's length and mark, those before the first action, and all
 abbrev pub runRecordNumbers : List ℕ
 runRecordNumbers = wrongMark ∷ tooShort ∷ []
 
@@ -175,7 +175,7 @@ abbrev pub runNumbers : List ℕ
 runNumbers = actionNumbers ++ openingNumbers
 
 pub run-numbers : runNumbers
-    ≡ 2 ∷ 3 ∷ 4 ∷ 5 ∷ 6 ∷ 7 ∷ 8 ∷ 9 ∷ 10 ∷ 11 ∷ 12 ∷ 13 ∷ 14 ∷ 15 ∷ 16 ∷ 17 ∷ 18 ∷ 19 ∷ 20 ∷ 21 ∷ 22 ∷ 25 ∷ []
+    ≡ 2 ∷ 3 ∷ 4 ∷ 5 ∷ 6 ∷ 7 ∷ 8 ∷ 9 ∷ 10 ∷ 11 ∷ 12 ∷ 13 ∷ 14 ∷ 15 ∷ 16 ∷ 18 ∷ 19 ∷ 48 ∷ 49 ∷ 20 ∷ 21 ∷ 22 ∷ 25 ∷ []
 run-numbers = refl
 
 -- the number of a run record's length and mark is one of them
@@ -216,6 +216,11 @@ run-listed run =
       ]
       | no h ↦ rw (judge-unopened run h) (listed-within (accepted ∷ openingNumbers) all (opening run .refusal) refl (opening-listed run))
     ]
+
+-- nor one of a state rule: every state of a run meets them all
+pub run-meets-rules : (run : List ℕ) → listed stateNumbers (judge run .refusal) ≡ false
+unfolding listed every
+run-meets-rules run = listed-apart (accepted ∷ runNumbers) stateNumbers (judge run .refusal) refl (run-listed run)
 
 -- ---- how large the numbers of a verdict are
 -- 65,532 bytes hold a configuration and so many actions
