@@ -45,6 +45,9 @@ static unsigned long failed(question *ask, unsigned long known, unsigned long ac
     return accepted;
 }
 
+/* The number of the action that stopped the run, and the member that it names. */
+static uint32_t stopped_by;
+
 /* How many actions are accepted, one call for each, and when weak and strong ISR first failed. */
 static unsigned long play(size_t length, unsigned long *weak, unsigned long *strong)
 {
@@ -53,7 +56,7 @@ static unsigned long play(size_t length, unsigned long *weak, unsigned long *str
     if (length > LONGEST_RUN || !marked(length, 0, 0x43) || replay_fresh(run[2], run[3], run[4], run[5], state, sizeof state) != 0)
         return 0;
     while (marked(length, at, 0x41)
-        && replay_act(state, sizeof state, run[at + 2], run[at + 3], run[at + 4], run[at + 5], next, sizeof next) == 0) {
+        && (stopped_by = replay_act(state, sizeof state, run[at + 2], run[at + 3], run[at + 4], run[at + 5], next, sizeof next)) == 0) {
         memcpy(state, next, sizeof state);
         accepted = accepted + 1;
         *weak = failed(replay_weak, *weak, accepted);
@@ -104,6 +107,12 @@ int main(int count, char **names)
     accepted = play(length, &weak, &strong);
     if (accepted != number(0) || weak != number(3) || strong != number(4) || memcmp(state, verdict + 24, sizeof state) != 0) {
         printf("the actions one by one give another verdict, after %lu\n", accepted);
+        return 1;
+    }
+    if (stopped_by % 256 == 48 || stopped_by % 256 == 49)
+        printf("member %lu\n", (unsigned long)(stopped_by / 256));
+    if (stopped_by != 0 && stopped_by % 256 != number(1)) {
+        printf("the actions one by one stop by another number, %lu\n", (unsigned long)(stopped_by % 256));
         return 1;
     }
     if (replay_representative(state, sizeof state, next, sizeof next) == 0) {

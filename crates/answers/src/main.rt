@@ -4,8 +4,8 @@
 // The first byte of a question says what is asked, and so how many bytes the question has. Behind it stand:
 //
 // - 0, 227 bytes: R, L, M, X, and 222 bytes that are not looked at. `fresh NUMBER STATE`
-// - 1, 227 bytes: a flat state. `rule NUMBER`, the number of the first state rule that it breaks, 0 where it breaks none
-// - 2, 231 bytes: kind, a, b, e, and a flat state. `act NUMBER STATE`
+// - 1, 227 bytes: a flat state. `rule NUMBER`, 41 to 47 for the first state rule that it breaks, 0 where it breaks none
+// - 2, 231 bytes: kind, a, b, e, and a flat state. `act NUMBER MEMBER STATE`
 // - 3, 232 bytes: five places, and a flat state. `rename NUMBER STATE`
 // - 4, 227 bytes: a flat state. `representative NUMBER STATE`
 // - 5, 227 bytes: a flat state. `weak NUMBER HOLDS LEADER MEMBER OFFSET`
@@ -15,10 +15,11 @@
 // - 9, 2 + n bytes: n, and n bytes to be read as an image. `read NUMBER STATE`
 // - any other, 227 bytes that are not looked at. `unknown`
 //
-// NUMBER is 0 for accepted, or why it is refused. STATE is the flat form of the state that the answer holds, accepted or refused.
-// HOLDS is 1 where the property holds, else 0. LENGTH is the image's length as it is answered, and BYTES is the whole buffer
-// afterwards; where n is 0 the line ends behind LENGTH, with no space. STATE and BYTES have two hexadecimal digits for each byte, in
-// capitals; all else is decimal. A last question that is not whole is not answered.
+// NUMBER is 0 for accepted, or why it is refused. MEMBER of an action is the member that its answer names, else 0. STATE is the
+// flat form of the state that the answer holds, accepted or refused. HOLDS is 1 where the property holds, else 0. LENGTH is the
+// image's length as it is answered, and BYTES is the whole buffer afterwards; where n is 0 the line ends behind LENGTH, with no
+// space. STATE and BYTES have two hexadecimal digits for each byte, in capitals; all else is decimal. A last question that is not
+// whole is not answered.
 mod print;
 
 ghost use mathlib.Core.Path.{_≡_};
@@ -97,7 +98,11 @@ fn places_of(question: &[u8]) -> [u8; 5]
 // What an action answers on a state. This and each function below that writes a line answers whether all was written.
 fn act(s: State, action: Action) -> bool {
     let answer = s.act(action);
-    print::state(b"act", answer.refusal, answer.state)
+    print::state(
+        b"act",
+        &[answer.refusal as u64, answer.member as u64],
+        answer.state,
+    )
 }
 
 // What writing the image of a state into a buffer answers and leaves there.
@@ -128,7 +133,7 @@ fn answer(question: &[u8]) -> bool
 {
     match question[0] {
         0 => print::outcome(b"fresh", State::fresh(limits_of(question))),
-        1 => print::rule(state_of(&question[1..]).broken_rule()),
+        1 => print::rule(state_of(&question[1..]).state_refusal()),
         2 => act(state_of(&question[5..]), action_of(question)),
         3 => print::outcome(
             b"rename",

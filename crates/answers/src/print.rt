@@ -90,19 +90,19 @@ fn line(name: &[u8], numbers: &[u64], bytes: &[u8]) -> bool {
     io::write_all(STDOUT_FILENO, &text[..end])
 }
 
-// A line with a number and the flat form of a state.
-pub(crate) fn state(name: &[u8], number: u8, s: State) -> bool {
+// A line with numbers and the flat form of a state.
+pub(crate) fn state(name: &[u8], numbers: &[u64], s: State) -> bool {
     let mut bytes = [0u8; flat::WIDTH];
     put_state(&mut bytes, 0, s);
-    line(name, &[number as u64], &bytes)
+    line(name, numbers, &bytes)
 }
 
-// The same, of an answer that holds both.
+// The same, of an answer with one number.
 pub(crate) fn outcome(name: &[u8], answer: Outcome) -> bool {
-    state(name, answer.refusal, answer.state)
+    state(name, &[answer.refusal as u64], answer.state)
 }
 
-// The number of the first state rule that a state breaks, or 0.
+// The refusal of a state.
 pub(crate) fn rule(number: u8) -> bool {
     line(b"rule", &[number as u64], b"")
 }

@@ -19,7 +19,7 @@
 --   Demand3                                       replica numbers are only names
 --     is-a-renaming .. rest-stays                 what a renaming is, and what it does to a state
 --     representatives .. least-image              when two representatives are equal, and which state is one
---     actions, renaming-is                        a renamed action on a renamed state; what renaming answers
+--     actions, members, renaming-is               a renamed action on a renamed state, and the member it names; what renaming answers
 --     runs                                        a run renamed throughout
 --   demand-1, demand-2, demand-3                  their proofs
 use Prim.Native.Nat.{ℕ, suc, _≤_, _<_, _+_, _*_}
@@ -29,17 +29,18 @@ use mathlib.Core.List.{List, _∷_, _++_}
 use mathlib.Core.Logic.{_↔_, _⊎_}
 use native.Mathlib.Omega.{arith}
 use lib.Dec.{ltb}
-use lib.ListN.{length, drop}
+use lib.ListN.{length, drop, getD}
 use Rattle.logic.specs.Tests.{refuted-iff}
 use Rattle.logic.specs.Order.{precedes}
 use Rattle.logic.specs.Refuse.{refuse, listed}
-use Rattle.parts.specs.Refusal.{accepted, wrongMark, tooShort, badConfiguration, runTooLong, bufferShort, notRenaming}
+use Rattle.parts.specs.Refusal.{accepted, wrongMark, tooShort, badConfiguration, runTooLong, bufferShort, notRenaming, breaksS1, memberNotFollowing, memberLacksOffset}
 use Rattle.parts.specs.Mark.{marked}
 use Rattle.parts.specs.Isr.{member}
 use Rattle.parts.specs.Bytes.{Bytes}
 use Rattle.cluster.specs.declared.Limits.{Limits}
 use Rattle.cluster.specs.declared.State.{State}
 use Rattle.cluster.specs.declared.Action.{Action}
+use Rattle.cluster.specs.declared.MemberTest.{MemberTest}
 use Rattle.cluster.specs.State.{limitsOf, replicaCount, replicaAt, Same, tidy, zeroState, nextLeaderEpoch, nextRecordId, requestAt}
 use Rattle.cluster.specs.Outcome.{answer, withZeros, asGiven}
 use Rattle.cluster.specs.Rules.{inRange, rules, stateRefusal, stateNumbers}
@@ -49,8 +50,9 @@ use Rattle.cluster.specs.Equality.{tidy-same}
 use Rattle.cluster.specs.Fresh.{freshState, fresh}
 use Rattle.cluster.specs.FreshLaws.{freshNumbers, fresh-listed, fresh-refused-zero, fresh-in, fresh-out}
 use Rattle.cluster.specs.Actions.{replicaPresumesLeadership}
-use Rattle.cluster.specs.Act.{actionAnswer, refusedOn, act}
+use Rattle.cluster.specs.Act.{actionAnswer, withoutMember, refusedOn, act}
 use Rattle.actions.specs.Kept.{Kept, act-kept}
+use Rattle.actions.specs.Named.{testNumber, SmallestMember, member-named, member-none}
 use Rattle.actions.specs.Answers.{actionNumbers, act-number, act-given, act-unmet, refusal-listed}
 use Rattle.questions.specs.declared.Property.{Property}
 use Rattle.questions.specs.Isr.{isrRefused, askIsr}
@@ -59,14 +61,15 @@ use Rattle.questions.specs.Offer.{offerRefused, offer}
 use Rattle.questions.specs.OfferTheorems.{offerNumbers, offer-listed, offer-broken-is, offer-zeros}
 use Rattle.images.specs.Image.{image, written, writeImage, bufferAfter}
 use Rattle.images.specs.WriteLaws.{writeNumbers, write-listed, write-refused, writes-broken, writes-all, writes-short}
-use Rattle.images.specs.Read.{readImage}
+use Rattle.images.specs.Read.{headerRefusal, bodyOf, readImage}
+use Rattle.images.specs.ReadNumbers.{HeaderBreaks, ReadBreaks, read-breaks-s1, read-breaks}
 use Rattle.images.specs.RoundTrip.{image-bytes, read-meets-rules}
 use Rattle.images.specs.ImageTheorems.{readNumbers, read-listed, read-refused-zero, read-iff-image, read-equal-is-image, image-iff}
 use Rattle.renamings.specs.Names.{newName, oldName, isRenaming}
 use Rattle.renamings.specs.Places.{HoldsOnce, renaming-iff}
 use Rattle.renamings.specs.Rename.{renameAction, renamed, Renames, rename, renameIsr, renameQuorum, renameRequest, renameReplica}
 use Rattle.renamings.specs.CodeLaws.{renameNumbers, rename-listed, rename-given, rename-broken, rename-fits, rename-unfit}
-use Rattle.renamings.specs.RenameTheorems.{renamed-act, renamed-rest, renamed-quorum, renamed-request, renamed-block, renamed-member}
+use Rattle.renamings.specs.RenameTheorems.{renamed-act, SmallestNewName, renamed-member-named, renamed-rest, renamed-quorum, renamed-request, renamed-block, renamed-member}
 use Rattle.representatives.specs.Representative.{representative, represent}
 use Rattle.representatives.specs.CodeLaws.{represent-listed, represent-given, represent-broken, represent-is, represent-number}
 use Rattle.representatives.specs.RepresentativeTheorems.{is-renamed, equal-or-greater, representatives-equal}
@@ -84,7 +87,8 @@ use Rattle.verdicts.specs.RenameRun.{renameRun, RenamesRun, renameVerdict}
 use Rattle.verdicts.specs.RunRenamed.{run-renamed}
 use Rattle.verdicts.specs.RunBehaviour.{nextRunRecord, stateAt, constantsIn, Joins, opening-is, opens-fresh, run-is-behaviour, run-record-joins, refused-not-allowed, reached}
 use Rattle.verdicts.specs.RunProperties.{weak-never, weak-first, strong-never, strong-first, exposed-run-at, exposed-run-by}
-use Rattle.verdicts.specs.VerdictTheorems.{StopsAt, refused-run-record, runNumbers, run-listed, accepted-fills, accepted-at, refused-by}
+use Rattle.verdicts.specs.VerdictTheorems.{StopsAt, refused-run-record, runNumbers, run-listed, run-meets-rules, accepted-fills, accepted-at, refused-by}
+use Rattle.demands.specs.BrokenRule.{AllNameRule, all-name-rule}
 use Rattle.replay.specs.Interface.{Reply, number, outAfter}
 use Rattle.replay.specs.InterfaceLaws.{refused-leaves}
 
@@ -101,10 +105,14 @@ pub record Demand1 : Type 0 where
   pub reading-answers : (bs : List ℕ) → listed (accepted ∷ readNumbers) (readImage bs .refusal) ≡ true
   pub renaming-answers : (s : State) (p : List ℕ) → listed (accepted ∷ renameNumbers) (rename s p .refusal) ≡ true
   pub representative-answers : (s : State) → listed (accepted ∷ stateNumbers) (represent s .refusal) ≡ true
-  -- "Broken input is refused": a configuration exactly where it is out of range, an image whose state breaks a rule, places that are
-  -- no renaming, a buffer that is too short; and a question on weak or strong ISR, or for a representative, by nothing but the state
+  -- "Broken input is refused": a configuration exactly where it is out of range, an image whose state breaks a rule, by the number of
+  -- that rule, places that are no renaming, a buffer that is too short; and a question on weak or strong ISR, or for a
+  -- representative, by nothing but the state
   pub fresh-in-range : (c : Limits) → inRange c ≡ true → fresh c ≡ answer accepted (freshState c)
   pub fresh-out-of-range : (c : Limits) → inRange c ≡ false → fresh c ≡ withZeros badConfiguration
+  pub read-breaks-one : (bs : List ℕ) → readImage bs .refusal ≡ breaksS1 ↔ HeaderBreaks bs
+  pub read-breaks-later : (bs : List ℕ) (k : ℕ) → 0 < k → k < length stateNumbers
+      → readImage bs .refusal ≡ getD stateNumbers k accepted ↔ (headerRefusal bs ≡ accepted) × ReadBreaks k (bodyOf bs)
   pub read-meets-the-rules : (bs : List ℕ) → readImage bs .refusal ≡ accepted → rules (readImage bs .state) ≡ true
   pub other-places : (s : State) → rules s ≡ true → (p : List ℕ) → (Renames s p → ⊥) → rename s p ≡ asGiven s notRenaming
   pub short-buffer : (s : State) (buffer : List ℕ) → rules s ≡ true → length buffer < length (image s)
@@ -115,7 +123,14 @@ pub record Demand1 : Type 0 where
   -- rules are tests; what they test is said by `Rules`
   pub state-rules : (s : State) → rules s ≡ true ↔ Rules s
   pub broken-number : (s : State) → rules s ≡ false ↔ listed stateNumbers (stateRefusal s) ≡ true
-  pub broken-action : (s : State) (action : Action) → rules s ≡ false → act s action ≡ refusedOn s (stateRefusal s)
+  -- "41 to 47 stand for S1 to S7": every answer gives each exactly where that rule is the first that the state breaks
+  pub broken-rule : (s : State) → AllNameRule s
+  -- where 48 or 49 is given, "the action's answer names the smallest ISR member with that fault, 0 in all its other answers"
+  pub member-named-by : (test : MemberTest) (s : State) (action : Action) → act s action .refusal ≡ testNumber test
+      → SmallestMember test s (action .a) (act s action .member)
+  pub no-member-named : (s : State) (action : Action) → (act s action .refusal ≡ memberNotFollowing → ⊥)
+      → (act s action .refusal ≡ memberLacksOffset → ⊥) → act s action .member ≡ 0
+  pub broken-action : (s : State) (action : Action) → rules s ≡ false → act s action ≡ refusedOn s 0 (stateRefusal s)
   pub broken-isr : (property : Property) (s : State) → rules s ≡ false → askIsr property s ≡ isrRefused (stateRefusal s)
   pub broken-offer : (s : State) (kind : ℕ) → rules s ≡ false → offer s kind ≡ offerRefused (stateRefusal s)
   pub broken-writing : (s : State) (buffer : List ℕ) → rules s ≡ false → writeImage s buffer ≡ written (stateRefusal s) 0
@@ -136,6 +151,7 @@ pub record Demand1 : Type 0 where
   -- of a run of any bytes: its numbers; "the one a run had reached", which is the state behind its accepted run records; and zeros
   -- where no configuration is accepted
   pub run-answers : (run : List ℕ) → listed (accepted ∷ runNumbers) (judge run .refusal) ≡ true
+  pub run-breaks-none : (run : List ℕ) → listed stateNumbers (judge run .refusal) ≡ false
   pub run-reached : (run : List ℕ) → opening run .refusal ≡ accepted → judge run .state ≡ stateAt run (judge run .tally .accepted)
   pub run-zeros : (run : List ℕ) → (opening run .refusal ≡ accepted → ⊥) → judge run ≡ unopened (opening run .refusal)
 
@@ -152,6 +168,8 @@ demand-1 =
       representative-answers = represent-listed;
       fresh-in-range = fresh-in;
       fresh-out-of-range = fresh-out;
+      read-breaks-one = read-breaks-s1;
+      read-breaks-later = read-breaks;
       read-meets-the-rules = λ bs ok. read-meets-rules bs (readImage bs .state) (ap (λ (n : ℕ). answer n (readImage bs .state)) ok);
       other-places = λ s h p f. sym (rename-unfit s p h (refuted-iff (isRenaming (replicaCount (s .limits)) p) ((λ e. e), (λ e. e)) .0 f));
       short-buffer = λ s buffer h k. let w = writes-short s buffer h k in (sym (w .0), sym (w .1));
@@ -159,6 +177,9 @@ demand-1 =
       representative-by-state = represent-number;
       state-rules = rules-iff;
       broken-number = broken-listed-iff;
+      broken-rule = all-name-rule;
+      member-named-by = λ test s action e. member-named test s action e;
+      no-member-named = member-none;
       broken-action = act-unmet;
       broken-isr = isr-broken;
       broken-offer = offer-broken-is;
@@ -174,6 +195,7 @@ demand-1 =
       writing-leaves = λ s buffer h. write-refused s buffer h .1;
       interface-leaves = refused-leaves;
       run-answers = run-listed;
+      run-breaks-none = run-meets-rules;
       run-reached = reached;
       run-zeros = judge-unopened;
     }
@@ -319,10 +341,15 @@ pub record Demand3 : Type 0 where
   -- "the state's image under every other renaming is equal or greater"
   pub least-image : (s : State) → rules s ≡ true → (p : List ℕ) → Renames s p
       → (image (representative s) ≡ image (renamed p s)) ⊎ (precedes (image (representative s)) (image (renamed p s)) ≡ true)
-  -- "the renamed action on the renamed state gets the same number, 0 or a refusal, and the state handed back is the first one's, renamed"
+  -- "the renamed action on the renamed state gets the same number, 0 or a refusal, and the state handed back is the first one's, renamed";
+  -- document 02: "Demand 3 leaves out the member named, and nothing else"
   pub actions : (s : State) → rules s ≡ true → (p : List ℕ) → Renames s p → (action : Action)
-      → act (renamed p s) (renameAction (replicaCount (s .limits)) (newName p) action)
-      ≡ actionAnswer (act s action .refusal) (renamed p (act s action .state))
+      → withoutMember (act (renamed p s) (renameAction (replicaCount (s .limits)) (newName p) action))
+      ≡ actionAnswer (act s action .refusal) 0 (renamed p (act s action .state))
+  -- of which this holds: it is the smallest new name of a member of a's ISR with the same fault
+  pub members : (s : State) → rules s ≡ true → (p : List ℕ) → Renames s p → (test : MemberTest) (action : Action)
+      → act s action .refusal ≡ testNumber test
+      → SmallestNewName p test s (action .a) (act (renamed p s) (renameAction (replicaCount (s .limits)) (newName p) action) .member)
   -- what renaming answers of such a state is the state renamed
   pub renaming-is : (s : State) → rules s ≡ true → (p : List ℕ) → Renames s p → rename s p ≡ answer accepted (renamed p s)
   -- "For every run of bytes, whatever it holds and wherever it is refused, and for every renaming": one claim over all bytes
@@ -342,6 +369,7 @@ demand-3 =
       under-a-renaming = is-renamed;
       least-image = equal-or-greater;
       actions = λ s h p f action. renamed-act s h p f action;
+      members = λ s h p f test action e. renamed-member-named s h p f test action e;
       renaming-is = λ s h p f. sym (rename-fits s p h f);
       runs = run-renamed;
     }

@@ -1,1 +1,2 @@
+pub mod BrokenRule
 pub mod Demands

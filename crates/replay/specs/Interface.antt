@@ -13,6 +13,7 @@
 --   renameBy s places               what renaming by places that come as bytes answers; 27 where they are not five
 --   numberBytes n, verdictBytes v   a number as four bytes, and a verdict as 250
 --   replayFresh .. replayJudge      the reply of each of the ten functions
+--   memberNamedBy state .. e        the member that replay_act names
 --   numberAndLength reply out       what replay_write_image returns
 use Prim.Native.Nat.{ℕ, _+_, _*_, _/_, _%_}
 use mathlib.Core.Path.{_≡_}
@@ -90,7 +91,7 @@ isrReply a = replyBy (a .refusal) (gives (bit (a .holds) ∷ a .leader ∷ a .me
 unfoldable pub offerReply : OfferAnswer → Reply
 offerReply o = replyBy (o .refusal) (gives (o .a ∷ o .b ∷ o .e ∷ []))
 
--- the image of a state, or 1 where it breaks a rule
+-- the image of a state, or 41 to 47 where it breaks a rule
 unfoldable pub imageReply : State → Reply
 imageReply s = replyBy (stateRefusal s) (gives (image s))
 
@@ -106,7 +107,7 @@ unfoldable pub onState : List ℕ → (State → Reply) → Reply
 onState state reply = replyBy (widthRefusal state) (reply (stateOfFlat state))
 
 -- ---- places that come as bytes
--- 1 where the state breaks a rule, then 27 where the places are not five, or not a renaming of the replicas
+-- 41 to 47 where the state breaks a rule, then 27 where the places are not five, or not a renaming of the replicas
 unfoldable pub renameBy : State → List ℕ → Outcome
 renameBy s places = cond (eqb (length places) 5) (rename s places) (answer (firstRefusal (stateRefusal s) notRenaming) s)
 
@@ -137,6 +138,14 @@ replayFresh r l m x =
 -- replay_act: the state after an action
 unfoldable pub replayAct : List ℕ → ℕ → ℕ → ℕ → ℕ → Reply
 replayAct state kind a b e = onState state (λ s. actionReply (act s (actionOf kind a b e)))
+
+-- the member that its answer names, 0 where the state has not its 226 bytes
+unfoldable pub memberNamedBy : List ℕ → ℕ → ℕ → ℕ → ℕ → ℕ
+memberNamedBy state kind a b e = byRefusal (widthRefusal state) (λ n. 0) (act (stateOfFlat state) (actionOf kind a b e) .member)
+
+-- it returns the number and 256 times that member. Beside 24 the action is accepted, and so names 0
+unfoldable pub numberAndMember : Reply → ℕ → List ℕ → ℕ
+numberAndMember reply member out = number reply out + 256 * member
 
 -- replay_weak and replay_strong: whether the property holds, or its smallest failure
 unfoldable pub replayWeak : List ℕ → Reply

@@ -5,6 +5,7 @@
 --   width-right                       bytes that widthRefusal does not refuse are 226
 --   on-state, on-state-replies        the reply to 226 bytes is that of their state
 --   on-state-refused, on-state-alone  bytes of any other count: the number is returned, `out` stays, and no length is answered
+--   member-of-state .. member-refused the member that replay_act names: of 226 bytes, and of any other count
 --   five-places                       five places, taken one by one, are the list
 --   rename-five .. rename-uncounted   renaming by five places, and by any other count of them
 --   bool-byte                         whether a property holds, as a byte
@@ -15,7 +16,7 @@
 --   verdict-width                     a verdict has 250 bytes
 --   refused-leaves                    whatever refuses leaves `out` as it was
 use Prim.Native.Nat.{ℕ, zero, suc, _+_, _*_, _≤_, _<_}
-use mathlib.Core.Path.{_≡_, refl, sym, _∙_, ap, subst}
+use mathlib.Core.Path.{_≡_, refl, sym, _∙_, ap, ap₂, subst}
 use mathlib.Core.Bool.{Bool, true, false, cond}
 use mathlib.Core.List.{List, [], _∷_, _++_}
 use native.Mathlib.Omega.{arith}
@@ -32,10 +33,12 @@ use Rattle.parts.specs.Refusal.{accepted, bufferShort, notRenaming}
 use Rattle.parts.specs.Isr.{bit}
 use Rattle.cluster.specs.declared.State.{State}
 use Rattle.cluster.specs.declared.Outcome.{Outcome}
+use Rattle.cluster.specs.declared.ActionAnswer.{ActionAnswer}
 use Rattle.cluster.specs.State.{zeroState}
 use Rattle.cluster.specs.Rules.{rules, stateRefusal}
 use Rattle.cluster.specs.RuleLaws.{met-refusal, broken-refusal}
 use Rattle.cluster.specs.Outcome.{answer}
+use Rattle.cluster.specs.Act.{actionOf, act}
 use Rattle.renamings.specs.Rename.{rename}
 use Rattle.images.specs.Image.{image, writeImage, bufferAfter}
 use Rattle.images.specs.ImageLaws.{image-most}
@@ -46,7 +49,7 @@ use Rattle.images.specs.ReadLaws.{read-refused, read-met, read-unmet}
 use Rattle.runs.specs.declared.Verdict.{Verdict}
 use Rattle.flat.specs.Flat.{flatWidth, flat, stateOfFlat}
 use Rattle.flat.specs.FlatLaws.{flat-width}
-use Rattle.replay.specs.Interface.{Reply, refuses, gives, number, outAfter, lengthWritten, Replies, replyBy, stateReply, outcomeReply, imageReply, renameBy, widthRefusal, onState, numberAndLength, verdictWidth, numberBytes, verdictBytes}
+use Rattle.replay.specs.Interface.{Reply, refuses, gives, number, outAfter, lengthWritten, Replies, replyBy, stateReply, outcomeReply, imageReply, renameBy, widthRefusal, onState, actionReply, replayAct, memberNamedBy, numberAndMember, numberAndLength, verdictWidth, numberBytes, verdictBytes}
 
 -- ---- replies
 -- the answer's own number refuses
@@ -113,6 +116,31 @@ pub on-state-alone : (state : List ℕ) (reply : State → Reply) (out : List �
     → n ≡ numberAndLength (onState state reply) out
 unfolding onState
 on-state-alone state reply out n e h = rw e (refused-number-alone (widthRefusal state) (reply (stateOfFlat state)) out (λ z. h (e ∙ z)))
+
+-- ---- the member that an action's answer names
+-- 226 bytes: that of the action on their state
+pub member-of-state : (state : List ℕ) (kind a b e : ℕ) → widthRefusal state ≡ accepted
+    → act (stateOfFlat state) (actionOf kind a b e) .member ≡ memberNamedBy state kind a b e
+unfolding memberNamedBy
+member-of-state state kind a b e h = by-accepted (widthRefusal state) (λ n. 0) (act (stateOfFlat state) (actionOf kind a b e) .member) h
+
+pub member-replies : (state : List ℕ) (kind a b e : ℕ) (given : ActionAnswer) (out : List ℕ) (n : ℕ) (after : List ℕ) → widthRefusal state ≡ accepted
+    → given ≡ act (stateOfFlat state) (actionOf kind a b e) → Replies (actionReply given) out n after
+    → (n + 256 * given .member ≡ numberAndMember (replayAct state kind a b e) (memberNamedBy state kind a b e) out)
+    × (after ≡ outAfter (replayAct state kind a b e) out)
+unfolding numberAndMember replayAct
+member-replies state kind a b e given out n after h same r =
+    let s = on-state-replies state (λ s. actionReply (act s (actionOf kind a b e))) (actionReply given) out n after h (ap actionReply same) r in
+    (ap₂ (λ (k m : ℕ). k + 256 * m) (s .0) (ap (λ (o : ActionAnswer). o .member) same ∙ member-of-state state kind a b e h), s .1)
+
+-- bytes of any other count: none, so that the number stands alone
+pub member-refused : (state : List ℕ) (kind a b e : ℕ) (out : List ℕ) (n : ℕ) → n ≡ widthRefusal state → (n ≡ accepted → ⊥)
+    → n ≡ numberAndMember (replayAct state kind a b e) (memberNamedBy state kind a b e) out
+unfolding memberNamedBy numberAndMember replayAct
+member-refused state kind a b e out n same h =
+    let none = by-refused (widthRefusal state) (λ n. 0) (act (stateOfFlat state) (actionOf kind a b e) .member) (λ z. h (same ∙ z)) in
+    let refused = on-state-refused state (λ s. actionReply (act s (actionOf kind a b e))) out n same h .0 in
+    omega (arith, none, refused)
 
 -- ---- places that come as bytes
 pub five-places : (l : List ℕ) → length l ≡ 5 → getD l 0 0 ∷ getD l 1 0 ∷ getD l 2 0 ∷ getD l 3 0 ∷ getD l 4 0 ∷ [] ≡ l

@@ -1,23 +1,27 @@
--- What the interface keeps: a state that one function gives is taken by the next as that state, and the six numbers of a verdict
--- are read off their bytes. Assumes nothing.
+-- What the interface keeps: a state that one function gives is taken by the next as that state, the six numbers of a verdict
+-- are read off their bytes, and replay_act names a member beside 48 and 49 alone. Assumes nothing.
 use Prim.Native.Nat.{ℕ, _+_, _*_, _/_, _%_, _<_}
 use mathlib.Core.Path.{_≡_, refl, sym, _∙_, ap}
 use mathlib.Core.Bool.{true}
 use mathlib.Core.List.{List}
 use native.Mathlib.Omega.{arith}
+use native.Mathlib.Decide.{ℕ-discrete}
 use native.Mathlib.Nat.{div-div-eq-div-mul}
 use lib.ListN.{length}
 use borrow.Author.Tests.{le-ltb}
-use Rattle.logic.specs.Refuse.{refuse-none}
-use Rattle.parts.specs.Refusal.{accepted}
+use Rattle.logic.specs.Refuse.{refuse-none, by-accepted, by-refused}
+use Rattle.parts.specs.Refusal.{accepted, memberNotFollowing, memberLacksOffset}
 use Rattle.parts.specs.Mark.{byteAt}
 use Rattle.cluster.specs.declared.State.{State}
+use Rattle.cluster.specs.declared.ActionAnswer.{ActionAnswer}
 use Rattle.cluster.specs.State.{tidy}
 use Rattle.cluster.specs.Rules.{rules}
-use Rattle.flat.specs.Flat.{flatWidth, flat}
+use Rattle.cluster.specs.Act.{actionOf, act}
+use Rattle.actions.specs.Named.{member-none}
+use Rattle.flat.specs.Flat.{flatWidth, flat, stateOfFlat}
 use Rattle.flat.specs.FlatLaws.{flat-width}
 use Rattle.flat.specs.FlatTheorems.{answer-back}
-use Rattle.replay.specs.Interface.{Reply, widthRefusal, onState, numberBytes}
+use Rattle.replay.specs.Interface.{Reply, refuses, gives, number, stateReply, actionReply, widthRefusal, onState, replayAct, memberNamedBy, numberBytes}
 use Rattle.replay.specs.InterfaceLaws.{on-state}
 
 -- ---- states
@@ -46,3 +50,30 @@ pub number-back : (n : ℕ) → n < 4294967296 → numberOf (numberBytes n) ≡ 
 unfolding numberBytes
 number-back n h =
     by-bytes n (n / 256) (n / 65536) (n / 16777216) refl (sym (div-div-eq-div-mul n 256 256)) (sym (div-div-eq-div-mul n 65536 256)) h
+
+-- ---- the member that replay_act names
+module _ (state : List ℕ) (kind a b e : ℕ) (out : List ℕ) where
+  abbrev answered : ActionAnswer
+  answered = act (stateOfFlat state) (actionOf kind a b e)
+
+  -- the number of a refused action is the one that is returned
+  refused-number : widthRefusal state ≡ accepted → (answered .refusal ≡ accepted → ⊥) → number (replayAct state kind a b e) out ≡ answered .refusal
+  unfolding replayAct stateReply number
+  refused-number h refused =
+      ap (λ (r : Reply). number r out) (sym (on-state state (λ s. actionReply (act s (actionOf kind a b e))) h))
+      ∙ ap (λ (r : Reply). number r out) (sym (by-refused (answered .refusal) refuses (gives (flat (answered .state))) refused))
+
+  -- beside every number but 48 and 49 it names 0: 24 stands alone
+  pub names-none-beside : (number (replayAct state kind a b e) out ≡ memberNotFollowing → ⊥)
+      → (number (replayAct state kind a b e) out ≡ memberLacksOffset → ⊥) → memberNamedBy state kind a b e ≡ 0
+  unfolding memberNamedBy
+  names-none-beside f o =
+      elim (ℕ-discrete (widthRefusal state) accepted) [
+        | yes h ↦
+            let named : (k : ℕ) → (number (replayAct state kind a b e) out ≡ k → ⊥) → (k ≡ accepted → ⊥) → answered .refusal ≡ k → ⊥ =
+            λ k other some q. other (refused-number h (λ z. some (sym q ∙ z)) ∙ q) in
+            sym (by-accepted (widthRefusal state) (λ n. 0) (answered .member) h)
+            ∙ member-none (stateOfFlat state) (actionOf kind a b e) (named memberNotFollowing f (λ z. omega (arith, z)))
+            (named memberLacksOffset o (λ z. omega (arith, z)))
+        | no h ↦ sym (by-refused (widthRefusal state) (λ n. 0) (answered .member) h)
+      ]

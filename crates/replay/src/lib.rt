@@ -1,12 +1,12 @@
 // The C interface, for C, Rust or anything that calls C: ten functions on bytes. In C a slice is a pointer and then a length. A
-// state is its flat form, 226 bytes. Each function returns a number, 0 for accepted (`replay_write_image`: and 256 times a length):
-// first 21 or 23 where `state` has not 226 bytes, then the numbers of the library's answer, last 24 where `out` is shorter than the
+// state is its flat form, 226 bytes. Each function returns a number, 0 for accepted (`replay_act`: and 256 times the member named;
+// `replay_write_image`: and 256 times a length): first 21 or 23 where `state` has not 226 bytes, then the numbers of the library's answer, last 24 where `out` is shorter than the
 // answer. Accepted, the answer stands at the front of `out`; refused, `out` is as it was.
 mod give;
 mod take;
 
 ghost use mathlib.Core.Path.{_≡_};
-ghost use Rattle.replay.specs.Interface.{Replies, numberAndLength, outAfter, replayFresh, replayAct, replayWeak, replayStrong, replayOffer, replayWriteImage, replayReadImage, replayRename, replayRepresentative, replayJudge};
+ghost use Rattle.replay.specs.Interface.{Replies, numberAndLength, numberAndMember, memberNamedBy, outAfter, replayFresh, replayAct, replayWeak, replayStrong, replayOffer, replayWriteImage, replayReadImage, replayRename, replayRepresentative, replayJudge};
 use cluster::Action;
 use cluster::Limits;
 use cluster::State;
@@ -28,14 +28,15 @@ pub extern "C" fn replay_fresh(r: u8, l: u8, m: u8, x: u8, out: &mut [u8]) -> u8
     give::give_state(fresh.refusal, fresh.state, &mut out[..])
 }
 
-// The state after an action.
+// The state after an action. Returns the number and 256 times the member that the answer names, which is 0 beside any other number
+// than 48 and 49.
 #[no_mangle]
-pub extern "C" fn replay_act(state: &[u8], kind: u8, a: u8, b: u8, e: u8, out: &mut [u8]) -> u8
-    ensures { λ n. ⌜ Replies (replayAct (now (state .entry)) kind a b e) (now (out .entry)) n (now (out .exit)) ⌝ }
+pub extern "C" fn replay_act(state: &[u8], kind: u8, a: u8, b: u8, e: u8, out: &mut [u8]) -> u32
+    ensures { λ n. ⌜ (n ≡ numberAndMember (replayAct (now (state .entry)) kind a b e) (memberNamedBy (now (state .entry)) kind a b e) (now (out .entry))) × (now (out .exit) ≡ outAfter (replayAct (now (state .entry)) kind a b e) (now (out .entry))) ⌝ }
 {
     let refusal = take::width_refusal(state);
     if refusal != ACCEPTED {
-        return refusal;
+        return refusal as u32;
     }
     let action = Action {
         kind: kind,
@@ -44,7 +45,8 @@ pub extern "C" fn replay_act(state: &[u8], kind: u8, a: u8, b: u8, e: u8, out: &
         e: e,
     };
     let answer = state_of(state).act(action);
-    give::give_state(answer.refusal, answer.state, &mut out[..])
+    let number = give::give_state(answer.refusal, answer.state, &mut out[..]);
+    (number as u32) + 256 * (answer.member as u32)
 }
 
 // Whether weak ISR holds, or its smallest failure.
