@@ -1,8 +1,23 @@
 //! The nine actions: which number refuses one, and the state that it hands back.
 
-use crate::state::{in_isr, Record, State};
+use crate::state::{in_isr, Record, Replica, State};
 
 pub const LAST_KIND: u8 = 8;
+
+/// Why an action is refused.
+#[derive(Clone, Copy, PartialEq, Eq, Debug)]
+pub struct Refusal {
+    pub number: u8,
+    /// Of 48 and 49 the smallest member of the leader's ISR with that fault, else 0.
+    pub member: u8,
+}
+
+impl From<u8> for Refusal {
+    /// A refusal that names no member.
+    fn from(number: u8) -> Refusal {
+        Refusal { number, member: 0 }
+    }
+}
 
 /// Which of the operands a, b and e a kind uses. A kind above 8 uses none.
 pub fn used_operands(kind: u8) -> (bool, bool, bool) {
@@ -15,33 +30,31 @@ pub fn used_operands(kind: u8) -> (bool, bool, bool) {
     }
 }
 
-/// The state after the action, or the refusal's number.
-pub fn act(state: &State, kind: u8, a: u8, b: u8, e: u8) -> Result<State, u8> {
-    if state.broken_rule() != 0 {
-        return Err(1);
-    }
+/// The state after the action, or why it is refused.
+pub fn act(state: &State, kind: u8, a: u8, b: u8, e: u8) -> Result<State, Refusal> {
+    state.check()?;
     act_on_good(state, kind, a, b, e)
 }
 
 /// The same for a state that is known to meet the state rules.
-pub fn act_on_good(state: &State, kind: u8, a: u8, b: u8, e: u8) -> Result<State, u8> {
+pub fn act_on_good(state: &State, kind: u8, a: u8, b: u8, e: u8) -> Result<State, Refusal> {
     if kind > LAST_KIND {
-        return Err(2);
+        return Err(2.into());
     }
     if !operands_fit(state, kind, a, b, e) {
-        return Err(3);
+        return Err(3.into());
     }
     let mut next = match kind {
-        0 => controller_shrink(state, a),
-        1 => elect(state, a),
-        2 => become_leader(state, e),
-        3 => become_follower(state, a, e),
-        4 => write(state, a),
-        5 => leader_shrink(state, a, b),
-        6 => leader_expand(state, a, b),
-        7 => advance(state, a),
-        _ => replicate(state, a, b),
-    }?;
+        0 => controller_shrink(state, a)?,
+        1 => elect(state, a)?,
+        2 => become_leader(state, e)?,
+        3 => become_follower(state, a, e)?,
+        4 => write(state, a)?,
+        5 => leader_shrink(state, a, b)?,
+        6 => leader_expand(state, a, b)?,
+        7 => advance(state, a)?,
+        _ => replicate(state, a, b)?,
+    };
     next.tidy();
     Ok(next)
 }
@@ -235,18 +248,25 @@ fn leader_expand(state: &State, a: u8, b: u8) -> Result<State, u8> {
     Ok(leader_update(state, a, leader.isr | (1 << b)))
 }
 
-/// Kind 7: the presumed leader a raises its high watermark.
-fn advance(state: &State, a: u8) -> Result<State, u8> {
+/// The smallest member of the ISR with a fault, if one has it.
+fn smallest_with(state: &State, isr: u8, fault: impl Fn(&Replica) -> bool) -> Option<u8> {
+    let has_fault = |m: &u8| in_isr(isr, *m) && fault(&state.replicas[*m as usize]);
+    (0..state.replica_count).find(has_fault)
+}
+
+/// Kind 7: the presumed leader a raises its high watermark. That every member has a
+/// as leader is tried first over all members, then that every member has the offset hw.
+fn advance(state: &State, a: u8) -> Result<State, Refusal> {
     if !state.presumes(a) {
-        return Err(10);
+        return Err(10.into());
     }
     let leader = &state.replicas[a as usize];
-    for m in 0..state.replica_count {
-        let member = &state.replicas[m as usize];
-        let has_offset = leader.hw < member.end;
-        if in_isr(leader.isr, m) && (member.leader != Some(a) || !has_offset) {
-            return Err(17);
-        }
+    let (isr, hw) = (leader.isr, leader.hw);
+    if let Some(member) = smallest_with(state, isr, |m| m.leader != Some(a)) {
+        return Err(Refusal { number: 48, member });
+    }
+    if let Some(member) = smallest_with(state, isr, |m| m.end <= hw) {
+        return Err(Refusal { number: 49, member });
     }
     let mut next = *state;
     next.replicas[a as usize].hw += 1;

@@ -2,6 +2,7 @@
 //! the right length.
 
 use crate::layout::{Action, Flat, Places, LONGEST_IMAGE, STATE, VERDICT};
+use second::actions::Refusal;
 use second::flat;
 
 fn answer<T>(number: u8, value: T) -> Result<T, u8> {
@@ -18,10 +19,14 @@ pub fn fresh(c: [u8; 4]) -> Result<Flat, u8> {
     answer(number, out)
 }
 
-pub fn act(state: &[u8], action: Action) -> Result<Flat, u8> {
+pub fn act(state: &[u8], action: Action) -> Result<Flat, Refusal> {
     let mut out = [0; STATE];
-    let number = flat::act(state, action[0], action[1], action[2], action[3], &mut out);
-    answer(number, out)
+    let told = flat::act(state, action[0], action[1], action[2], action[3], &mut out);
+    if told == 0 {
+        return Ok(out);
+    }
+    let (number, member) = ((told % 256) as u8, (told / 256) as u8);
+    Err(Refusal { number, member })
 }
 
 pub fn weak(state: &[u8]) -> Result<[u8; 4], u8> {

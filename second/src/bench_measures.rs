@@ -31,8 +31,7 @@ const STATES: usize = 4_000;
 /// To how many actions the longest runs are cut.
 const CUTS: [usize; 5] = [1_000, 2_000, 4_000, 8_000, MOST_ACTIONS];
 
-type Ask = fn(&[u8], &mut [u8]) -> u8;
-type Write = fn(&[u8], &mut [u8]) -> u32;
+type Ask<N> = fn(&[u8], &mut [u8]) -> N;
 type Draw = fn(&mut Random, u8) -> Flat;
 
 /// What a side does with a part of the inputs; answers a number made from its answers.
@@ -58,12 +57,12 @@ struct Times {
 
 /// Puts each input to one function. Of a verdict the number has the low bytes of accepted, weak,
 /// strong and exposed, and a byte of the last state.
-fn asking(ask: Ask) -> Work {
+fn asking<N: Into<u64> + 'static>(ask: Ask<N>) -> Work {
     Box::new(move |inputs| {
         let mut out = [0; VERDICT];
         let mut sum = 0;
         for input in inputs {
-            sum += u64::from(ask(input, &mut out));
+            sum += ask(input, &mut out).into();
             sum += u64::from(out[0]) + u64::from(out[12]) + u64::from(out[16]);
             sum += u64::from(out[20]) + u64::from(out[90]);
         }
@@ -72,7 +71,7 @@ fn asking(ask: Ask) -> Work {
 }
 
 /// Writes the image of each state.
-fn writing(write: Write) -> Work {
+fn writing(write: Ask<u32>) -> Work {
     Box::new(move |states| {
         let mut out = [0; LONGEST_IMAGE];
         let mut sum = 0;
@@ -241,12 +240,12 @@ fn images(which: &str, states: Vec<Vec<u8>>) -> [Measure; 2] {
 }
 
 /// What is asked of a state stands behind it in one input: here an action.
-fn proved_act(input: &[u8], out: &mut [u8]) -> u8 {
+fn proved_act(input: &[u8], out: &mut [u8]) -> u32 {
     let (state, action) = input.split_at(STATE);
     proved::act(state, action[0], action[1], action[2], action[3], out)
 }
 
-fn second_act(input: &[u8], out: &mut [u8]) -> u8 {
+fn second_act(input: &[u8], out: &mut [u8]) -> u32 {
     let (state, action) = input.split_at(STATE);
     flat::act(state, action[0], action[1], action[2], action[3], out)
 }
@@ -273,25 +272,45 @@ fn second_rename(input: &[u8], out: &mut [u8]) -> u8 {
 
 /// The other functions on states, each asked once of each state.
 fn single_answers(which: &str, states: &[Vec<u8>]) -> Vec<Measure> {
-    let asks: [(&str, More, Ask, Ask); 6] = [
+    let asks: [(&str, More, Work, Work); 6] = [
         (
             "accepted actions",
             inputs::accepted_action,
-            proved_act,
-            second_act,
+            asking(proved_act),
+            asking(second_act),
         ),
-        ("any actions", inputs::any_action, proved_act, second_act),
-        ("weak ISR", inputs::nothing, proved::weak, flat::weak),
-        ("strong ISR", inputs::nothing, proved::strong, flat::strong),
-        ("offers", inputs::any_kind, proved_offer, second_offer),
+        (
+            "any actions",
+            inputs::any_action,
+            asking(proved_act),
+            asking(second_act),
+        ),
+        (
+            "weak ISR",
+            inputs::nothing,
+            asking(proved::weak),
+            asking(flat::weak),
+        ),
+        (
+            "strong ISR",
+            inputs::nothing,
+            asking(proved::strong),
+            asking(flat::strong),
+        ),
+        (
+            "offers",
+            inputs::any_kind,
+            asking(proved_offer),
+            asking(second_offer),
+        ),
         (
             "renamed states",
             inputs::any_places,
-            proved_rename,
-            second_rename,
+            asking(proved_rename),
+            asking(second_rename),
         ),
     ];
-    let measure = |(what, more, proved, second): (&str, More, Ask, Ask)| {
+    let measure = |(what, more, proved, second): (&str, More, Work, Work)| {
         let name = format!("{}, {}", what, which);
         let inputs = inputs::followed(&name, states, more);
         Measure {
@@ -300,8 +319,8 @@ fn single_answers(which: &str, states: &[Vec<u8>]) -> Vec<Measure> {
             units: inputs.len(),
             inputs,
             part: STATES,
-            proved: asking(proved),
-            second: asking(second),
+            proved,
+            second,
         }
     };
     asks.map(measure).into()

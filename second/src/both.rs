@@ -1,8 +1,10 @@
-//! One question put to both implementations. The number answered and the whole buffer afterwards
-//! must be equal; the buffer is lent with random bytes in it, at a random length, inside a larger
-//! room, so that a byte written past its end shows too.
+//! One question put to both implementations. What is returned (the number, of an action with the
+//! member named, of an image with its length) and the whole buffer afterwards must be equal. The
+//! buffer is lent with random bytes in it, at a random length, inside a larger room, so that a byte
+//! written past its end shows too.
 
 use crate::failures::Failures;
+use crate::members::Members;
 use harness::answers::{self, Verdict};
 use harness::layout::{Action, LONGEST_IMAGE, STATE, VERDICT};
 use harness::random::Random;
@@ -35,6 +37,8 @@ pub struct Both {
     pub differences: u64,
     /// How often each number was answered, verdicts' refusals included.
     pub met: [u64; 256],
+    /// Which members refused actions named.
+    pub members: Members,
     /// By which kinds of actions weak and strong ISR first failed in random runs.
     pub failures: Failures,
 }
@@ -52,6 +56,7 @@ impl Both {
             tested: 0,
             differences: 0,
             met: [0; 256],
+            members: Members::default(),
             failures: Failures::default(),
         }
     }
@@ -65,6 +70,7 @@ impl Both {
         for (sum, count) in self.met.iter_mut().zip(other.met) {
             *sum += count;
         }
+        self.members.add(&other.members);
         self.failures.add(&other.failures);
     }
 
@@ -146,15 +152,16 @@ impl Both {
     pub fn act(&mut self, state: &[u8], action: Action) -> u32 {
         self.actions += 1;
         let [kind, a, b, e] = action;
-        self.ask(
+        let answer = self.ask(
             "act",
             &[("state", state), ("kind a b e", &action)],
             STATE,
-            [
-                &|out| proved::act(state, kind, a, b, e, out).into(),
-                &|out| flat::act(state, kind, a, b, e, out).into(),
-            ],
-        )
+            [&|out| proved::act(state, kind, a, b, e, out), &|out| {
+                flat::act(state, kind, a, b, e, out)
+            }],
+        );
+        self.members.count(answer);
+        answer
     }
 
     pub fn weak(&mut self, state: &[u8]) -> u32 {

@@ -11,6 +11,7 @@ mod classes;
 mod explore;
 mod failures;
 mod lines;
+mod members;
 mod programs;
 mod properties;
 
@@ -25,6 +26,12 @@ const SOAK_SCALE: usize = 7;
 /// How many runs go through `runcheck`, and questions through `answers`, if no count is given.
 const RUNS: u64 = 3_000;
 const QUESTIONS: u64 = 300_000;
+
+/// Every number that an answer, or the refusal of a run, can have.
+const NUMBERS: [usize; 35] = [
+    0, 2, 3, 4, 5, 6, 7, 8, 9, 10, 11, 12, 13, 14, 15, 16, 18, 19, 20, 21, 22, 23, 24, 25, 26, 27,
+    41, 42, 43, 44, 45, 46, 47, 48, 49,
+];
 
 type Class = (&'static str, fn(&mut Both, usize) -> String);
 
@@ -142,7 +149,7 @@ fn compare_all(options: &Options) -> bool {
         );
         total.add(&both);
     }
-    let all_met = options.only.is_some() || all_numbers_met(&total);
+    let all_met = options.only.is_some() || all_met(&total);
     let runs_drawn = options.only.iter().all(|only| only == "runs");
     let all_kinds = !runs_drawn || total.failures.by_all_kinds();
     println!(
@@ -156,13 +163,22 @@ fn compare_all(options: &Options) -> bool {
     all_met && all_kinds && total.differences == 0
 }
 
-/// A comparison that never meets a number does not test it.
-fn all_numbers_met(total: &Both) -> bool {
-    let missing: Vec<usize> = (0..28).filter(|number| total.met[*number] == 0).collect();
-    if missing.is_empty() {
-        println!("numbers 0 to 27 all met");
-    } else {
-        println!("numbers never met: {:?}", missing);
+/// Whether each number that an answer can have was met, and no other; and for each number that names
+/// a member each member. What a comparison never meets it does not test.
+fn all_met(total: &Both) -> bool {
+    let met = |number: &usize| total.met[*number] > 0;
+    let count = |number: &usize| format!("{}: {}", number, total.met[*number]);
+    let counts: Vec<String> = NUMBERS.iter().map(count).collect();
+    println!("numbers met: {}", counts.join(", "));
+    let never: Vec<&usize> = NUMBERS.iter().filter(|number| !met(number)).collect();
+    if !never.is_empty() {
+        println!("numbers never met: {:?}", never);
     }
-    missing.is_empty()
+    let other = |number: &usize| met(number) && !NUMBERS.contains(number);
+    let wrongly: Vec<usize> = (0..total.met.len()).filter(other).collect();
+    if !wrongly.is_empty() {
+        println!("numbers that no answer has were met: {:?}", wrongly);
+    }
+    let members = total.members.all_named();
+    never.is_empty() && wrongly.is_empty() && members
 }

@@ -49,11 +49,15 @@ pub fn fresh(r: u8, l: u8, m: u8, x: u8, out: &mut [u8]) -> u8 {
     store_state(State::fresh(r, l, m, x), out)
 }
 
-/// The state after an action.
-pub fn act(state: &[u8], kind: u8, a: u8, b: u8, e: u8, out: &mut [u8]) -> u8 {
-    match load(state) {
-        Ok(state) => store_state(actions::act(&state, kind, a, b, e), out),
-        Err(number) => number,
+/// The state after an action. Answers the number plus 256 times the member named.
+pub fn act(state: &[u8], kind: u8, a: u8, b: u8, e: u8, out: &mut [u8]) -> u32 {
+    let answer = match load(state) {
+        Ok(state) => actions::act(&state, kind, a, b, e),
+        Err(number) => Err(number.into()),
+    };
+    match answer {
+        Ok(next) => store(&next.to_flat(), out).into(),
+        Err(refusal) => refusal.number as u32 + 256 * refusal.member as u32,
     }
 }
 

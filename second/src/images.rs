@@ -40,11 +40,9 @@ fn leader_of(byte: u8) -> Option<u8> {
     }
 }
 
-/// The image of a state, or 1 for a bad state.
+/// The image of a state; refused for a broken rule.
 pub fn write_image(state: &State) -> Result<Image, u8> {
-    if state.broken_rule() != 0 {
-        return Err(1);
-    }
+    state.check()?;
     Ok(image_of_good(state))
 }
 
@@ -108,9 +106,7 @@ pub fn read_image(bytes: &[u8]) -> Result<State, u8> {
     if at < bytes.len() {
         return Err(23);
     }
-    if state.broken_rule() != 0 {
-        return Err(1);
-    }
+    state.check()?;
     Ok(state)
 }
 
@@ -136,7 +132,7 @@ fn read_head(bytes: &[u8]) -> Result<State, u8> {
     state.next_epoch = bytes[6];
     state.next_id = bytes[7];
     if state.next_epoch > state.max_epoch + 1 || state.next_id > state.id_count {
-        return Err(1);
+        return Err(41);
     }
     // An image has no quorum epoch: it is always next epoch minus 1.
     state.quorum.epoch = state.next_epoch as i8 - 1;
@@ -159,7 +155,7 @@ fn read_replica(
     replica.isr = part[3];
     replica.end = part[4];
     if replica.end > log_size {
-        return Err(1);
+        return Err(42);
     }
     for offset in 0..replica.end {
         let part = take(bytes, at, 2)?;

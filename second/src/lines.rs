@@ -2,6 +2,7 @@
 //! prints compared with the second implementation's.
 
 use crate::asking::Questions;
+use crate::members::NAMING;
 use crate::programs::{printed, MOST_DIFFERENCES};
 use harness::random::Random;
 use second::printed::hex;
@@ -11,44 +12,56 @@ use std::io;
 
 const BATCH: u64 = 2_000;
 
-/// The sorts of lines, and the numbers that must be met of each.
-const SORTS: [(&str, &[u8]); 22] = [
-    ("fresh", &[0, 22]),
-    ("rule", &[0, 1, 2, 3, 4, 5, 6, 7]),
-    ("act of kind 0", &[0, 1, 3, 4, 5]),
-    ("act of kind 1", &[0, 1, 3, 4, 5, 6]),
-    ("act of kind 2", &[0, 1, 3, 7, 8, 9]),
-    ("act of kind 3", &[0, 1, 3, 7, 8, 9]),
-    ("act of kind 4", &[0, 1, 3, 10, 11, 12]),
-    ("act of kind 5", &[0, 1, 3, 5, 13, 14, 15]),
-    ("act of kind 6", &[0, 1, 3, 6, 13, 16]),
-    ("act of kind 7", &[0, 1, 3, 10, 17]),
-    ("act of kind 8", &[0, 1, 3, 10, 18, 19]),
-    ("act of another kind", &[1, 2]),
-    ("rename", &[0, 1, 27]),
-    ("representative", &[0, 1]),
-    ("weak that holds", &[0]),
-    ("weak that does not hold", &[0, 1]),
-    ("strong that holds", &[0]),
-    ("strong that does not hold", &[0, 1]),
-    ("offer", &[0, 1, 2, 26]),
-    ("write", &[0, 1, 24]),
-    ("read", &[0, 1, 20, 21, 22, 23]),
-    ("unknown", &[0]),
+/// The numbers of the state rules.
+const RULES: &[u8] = &[41, 42, 43, 44, 45, 46, 47];
+
+/// The sorts of lines, and the numbers of each: all of them must be met, and no other.
+const SORTS: [(&str, &[&[u8]]); 27] = [
+    ("fresh", &[&[0, 22]]),
+    ("rule", &[&[0], RULES]),
+    ("act of kind 0", &[&[0, 3, 4, 5], RULES]),
+    ("act of kind 1", &[&[0, 3, 4, 5, 6], RULES]),
+    ("act of kind 2", &[&[0, 3, 7, 8, 9], RULES]),
+    ("act of kind 3", &[&[0, 3, 7, 8, 9], RULES]),
+    ("act of kind 4", &[&[0, 3, 10, 11, 12], RULES]),
+    ("act of kind 5", &[&[0, 3, 5, 13, 14, 15], RULES]),
+    ("act of kind 6", &[&[0, 3, 6, 13, 16], RULES]),
+    ("act of kind 7", &[&[0, 3, 10], RULES]),
+    ("act of kind 7 naming 0", &[&NAMING]),
+    ("act of kind 7 naming 1", &[&NAMING]),
+    ("act of kind 7 naming 2", &[&NAMING]),
+    ("act of kind 7 naming 3", &[&NAMING]),
+    ("act of kind 7 naming 4", &[&NAMING]),
+    ("act of kind 8", &[&[0, 3, 10, 18, 19], RULES]),
+    ("act of another kind", &[&[2], RULES]),
+    ("rename", &[&[0, 27], RULES]),
+    ("representative", &[&[0], RULES]),
+    ("weak that holds", &[&[0]]),
+    ("weak that does not hold", &[&[0], RULES]),
+    ("strong that holds", &[&[0]]),
+    ("strong that does not hold", &[&[0], RULES]),
+    ("offer", &[&[0, 2, 26], RULES]),
+    ("write", &[&[0, 24], RULES]),
+    ("read", &[&[0, 20, 21, 22, 23], RULES]),
+    ("unknown", &[&[0]]),
 ];
 
 /// The sort of a question's line, and the line's number.
 fn sort(question: &[u8], line: &str) -> (String, u8) {
     let words: Vec<&str> = line.split(' ').collect();
+    let number = words.get(1).and_then(|word| word.parse().ok());
+    let number = number.unwrap_or(0);
     let sort = match words[0] {
-        "act" if question[1] < 9 => format!("act of kind {}", question[1]),
-        "act" => String::from("act of another kind"),
+        "act" if question[1] >= 9 => String::from("act of another kind"),
+        "act" if NAMING.contains(&number) => {
+            format!("act of kind {} naming {}", question[1], words[2])
+        }
+        "act" => format!("act of kind {}", question[1]),
         name @ ("weak" | "strong") if words[2] == "1" => format!("{} that holds", name),
         name @ ("weak" | "strong") => format!("{} that does not hold", name),
         name => String::from(name),
     };
-    let number = words.get(1).and_then(|word| word.parse().ok());
-    (sort, number.unwrap_or(0))
+    (sort, number)
 }
 
 /// How often each number was met in each sort of lines.
@@ -66,18 +79,24 @@ fn print_counts(met: &Met) {
     }
 }
 
-/// Names each number that must be met and was not; answers whether there is none.
-fn all_met(met: &Met) -> bool {
-    let mut all = true;
-    for (name, numbers) in SORTS {
-        for &number in numbers {
-            if !met.contains_key(&(String::from(name), number)) {
-                println!("never met: {} {}", name, number);
-                all = false;
-            }
+/// Names each number of a sort that was not met, and each that was met and is none of its sort;
+/// answers whether there is neither.
+fn as_listed(met: &Met) -> bool {
+    let mut listed = Vec::new();
+    for (name, lists) in SORTS {
+        for &number in lists.iter().copied().flatten() {
+            listed.push((String::from(name), number));
         }
     }
-    all
+    let never: Vec<_> = listed.iter().filter(|key| !met.contains_key(key)).collect();
+    let wrongly: Vec<_> = met.keys().filter(|key| !listed.contains(key)).collect();
+    for (name, number) in &never {
+        println!("never met: {} {}", name, number);
+    }
+    for (name, number) in &wrongly {
+        println!("met, and not listed: {} {}", name, number);
+    }
+    never.is_empty() && wrongly.is_empty()
 }
 
 /// Prints where the lines differ, and answers in how many.
@@ -100,7 +119,7 @@ fn differing_lines(path: &str, questions: &[&[u8]], found: &str, expected: &str)
 }
 
 /// Pipes so many questions through the program; answers whether every line was printed alike and
-/// every number of every sort was met.
+/// the numbers of every sort were met, and no other.
 pub fn check_answers(path: &str, seed: u64, count: u64) -> io::Result<bool> {
     let mut drawn = Questions::new(Random::named(seed, "answers"));
     let (mut asked, mut differences) = (0, 0);
@@ -121,5 +140,5 @@ pub fn check_answers(path: &str, seed: u64, count: u64) -> io::Result<bool> {
     }
     println!("answers: {} questions, {} differences", asked, differences);
     print_counts(&met);
-    Ok(all_met(&met) && differences == 0)
+    Ok(as_listed(&met) && differences == 0)
 }

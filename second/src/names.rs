@@ -28,11 +28,10 @@ pub fn is_renaming(replica_count: u8, places: &[u8]) -> bool {
     true
 }
 
-/// The state under a renaming; 1 for a bad state, 27 where the places are no renaming.
+/// The state under a renaming; refused for a broken rule, and by 27 where the places are no
+/// renaming.
 pub fn rename(state: &State, places: &[u8]) -> Result<State, u8> {
-    if state.broken_rule() != 0 {
-        return Err(1);
-    }
+    state.check()?;
     if !is_renaming(state.replica_count, places) {
         return Err(27);
     }
@@ -104,11 +103,9 @@ pub fn renamings(replica_count: u8) -> Vec<Places> {
     all
 }
 
-/// The state under the renaming with the least image, or 1 for a bad state.
+/// The state under the renaming with the least image; refused for a broken rule.
 pub fn representative(state: &State) -> Result<State, u8> {
-    if state.broken_rule() != 0 {
-        return Err(1);
-    }
+    state.check()?;
     let tidied = state.tidied();
     let mut least = tidied;
     let mut least_image = image_of_good(&least);

@@ -1,6 +1,7 @@
 //! Properties of the second implementation itself, so that an error shared by both would show:
-//! rules kept, unused room zero, image round trips, the same answers under another naming,
-//! representatives against all renamings, offers against all actions, runs against their prefixes.
+//! rules kept, unused room zero, image round trips, the same answers under another naming, the member
+//! that an action names, representatives against all renamings, offers against all actions, runs
+//! against their prefixes.
 
 use crate::both::Both;
 use crate::classes::reached_state;
@@ -8,6 +9,7 @@ use harness::answers::{self, Verdict};
 use harness::course;
 use harness::draw;
 use harness::layout::*;
+use second::actions::Refusal;
 use second::run::rename_run;
 
 /// Everything that is said of one state that meets the rules.
@@ -24,10 +26,14 @@ pub fn of_state(both: &mut Both, state: &Flat) {
     for action in course::accepted_actions(state) {
         of_action(both, state, action, &places);
     }
+    // A refused advance may name a member.
+    for action in course::actions_of_kind(state, 7) {
+        of_action(both, state, action, &places);
+    }
 }
 
 /// An accepted action keeps the rules and leaves zeros in unused room; a renamed action on the
-/// renamed state has the same number and the renamed next state.
+/// renamed state has the same number and the renamed next state, and names the member that it must.
 fn of_action(both: &mut Both, state: &Flat, action: Action, places: &Places) {
     let result = answers::act(state, action);
     let inputs: [(&str, &[u8]); 3] = [
@@ -52,11 +58,38 @@ fn of_action(both: &mut Both, state: &Flat, action: Action, places: &Places) {
         renamed_action(action, state[R], places),
     );
     let expected = result.map(|next| renamed(&next, places));
+    let number = |refusal: Refusal| refusal.number;
     both.property(
         "an action is the same under a renaming",
-        other == expected,
+        other.map_err(number) == expected.map_err(number),
         &inputs,
     );
+    if let Err(refusal) = other {
+        let named = Some(refusal.member) == due_member(state, action, refusal.number, places);
+        both.property("a renamed action names its member", named, &inputs);
+    }
+}
+
+/// The member that a refused action names under a renaming: of 48 and 49 the smallest new name of a
+/// member with that fault, none where no member has it or where another number was due; else 0.
+fn due_member(state: &Flat, action: Action, number: u8, places: &Places) -> Option<u8> {
+    let a = usize::from(action[1]);
+    let smallest = |fault: &dyn Fn(usize) -> bool| {
+        let leader_isr = state[replica(a) + ISR];
+        let faulty = |m: &usize| leader_isr & (1 << m) != 0 && fault(replica(*m));
+        (0..usize::from(state[R]))
+            .filter(faulty)
+            .map(|m| places[m])
+            .min()
+    };
+    let led_by_another = |member: usize| usize::from(state[member + LEADER]) != a + 1;
+    let lacks_offset = |member: usize| state[member + END] <= state[replica(a) + HW];
+    match number {
+        48 => smallest(&led_by_another),
+        49 if smallest(&led_by_another).is_none() => smallest(&lacks_offset),
+        49 => None,
+        _ => Some(0),
+    }
 }
 
 /// Whether a state meets S1 to S7: the questions refuse any other.
@@ -191,7 +224,7 @@ fn record_at(run: &[u8], v: &mut Verdict) -> u32 {
     let next = if v.at == 0 {
         answers::fresh(four)
     } else {
-        answers::act(&v.state, four)
+        answers::act(&v.state, four).map_err(|refusal| refusal.number)
     };
     match next {
         Ok(state) => v.state = state,

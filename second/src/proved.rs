@@ -12,7 +12,7 @@ extern "C" {
         e: u8,
         out: *mut u8,
         out_len: usize,
-    ) -> u8;
+    ) -> u32;
     fn replay_weak(state: *const u8, state_len: usize, out: *mut u8, out_len: usize) -> u8;
     fn replay_strong(state: *const u8, state_len: usize, out: *mut u8, out_len: usize) -> u8;
     fn replay_offer(
@@ -48,7 +48,7 @@ pub fn fresh(r: u8, l: u8, m: u8, x: u8, out: &mut [u8]) -> u8 {
     unsafe { replay_fresh(r, l, m, x, out.as_mut_ptr(), out.len()) }
 }
 
-pub fn act(state: &[u8], kind: u8, a: u8, b: u8, e: u8, out: &mut [u8]) -> u8 {
+pub fn act(state: &[u8], kind: u8, a: u8, b: u8, e: u8, out: &mut [u8]) -> u32 {
     unsafe {
         replay_act(
             state.as_ptr(),

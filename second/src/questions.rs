@@ -6,19 +6,15 @@ use crate::state::{in_isr, State};
 /// The smallest failing (replica, member, offset).
 pub type Failure = (u8, u8, u8);
 
-/// None where weak ISR holds, else the smallest failure; 1 for a bad state.
+/// None where weak ISR holds, else the smallest failure; refused for a broken rule.
 pub fn weak_isr(state: &State) -> Result<Option<Failure>, u8> {
-    if state.broken_rule() != 0 {
-        return Err(1);
-    }
+    state.check()?;
     Ok(weak_failure(state))
 }
 
-/// None where strong ISR holds, else the smallest failure; 1 for a bad state.
+/// None where strong ISR holds, else the smallest failure; refused for a broken rule.
 pub fn strong_isr(state: &State) -> Result<Option<Failure>, u8> {
-    if state.broken_rule() != 0 {
-        return Err(1);
-    }
+    state.check()?;
     Ok(strong_failure(state))
 }
 
@@ -69,9 +65,7 @@ fn failing_member(state: &State, r: u8, isr: u8) -> Option<Failure> {
 
 /// The smallest accepted (a, b, e) of a kind, unused operands 0.
 pub fn offer(state: &State, kind: u8) -> Result<(u8, u8, u8), u8> {
-    if state.broken_rule() != 0 {
-        return Err(1);
-    }
+    state.check()?;
     if kind > LAST_KIND {
         return Err(2);
     }

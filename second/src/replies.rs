@@ -1,6 +1,6 @@
 //! What the program `answers` prints: a line for each question of a row.
 
-use crate::actions::act;
+use crate::actions::{act, Refusal};
 use crate::images::{read_image, write_image};
 use crate::names::{rename, representative};
 use crate::printed::hex;
@@ -75,7 +75,7 @@ fn reply_on_state(question: &[u8]) -> String {
         ASKS_RULE => format!("rule {}", state.broken_rule()),
         ASKS_ACT => {
             let [kind, a, b, e] = [operands[0], operands[1], operands[2], operands[3]];
-            state_line("act", act(&state, kind, a, b, e), &given)
+            act_line(act(&state, kind, a, b, e), &given)
         }
         ASKS_RENAME => state_line("rename", rename(&state, &operands[..5]), &given),
         ASKS_REPRESENTATIVE => state_line("representative", representative(&state), &given),
@@ -94,6 +94,15 @@ fn state_line(name: &str, answer: Result<State, u8>, beside: &[u8; FLAT_SIZE]) -
         Err(number) => (number, *beside),
     };
     format!("{} {} {}", name, number, hex(&flat))
+}
+
+/// The number, the member named, and the state that is answered or, refused, the one given.
+fn act_line(answer: Result<State, Refusal>, given: &[u8; FLAT_SIZE]) -> String {
+    let (number, member, flat) = match answer {
+        Ok(next) => (0, 0, next.to_flat()),
+        Err(refusal) => (refusal.number, refusal.member, *given),
+    };
+    format!("act {} {} {}", number, member, hex(&flat))
 }
 
 fn isr_line(name: &str, answer: Result<Option<Failure>, u8>) -> String {

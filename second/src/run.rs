@@ -105,7 +105,9 @@ fn read_configuration(run: &[u8]) -> Result<State, u8> {
 /// The state after an action record. The states of a run meet the state rules.
 fn judge_action(state: &State, record: &[u8]) -> Result<State, u8> {
     check_record(record, ACTION_MARK)?;
-    act_on_good(state, record[2], record[3], record[4], record[5])
+    let answer = act_on_good(state, record[2], record[3], record[4], record[5]);
+    // A verdict does not carry the member named.
+    answer.map_err(|refusal| refusal.number)
 }
 
 /// Takes the state that an accepted action handed back.

@@ -67,6 +67,20 @@ const ZERO_REPLICA: Replica = Replica {
     records: [ZERO_RECORD; MOST_RECORDS],
 };
 
+/// A state rule: whether a state keeps it.
+type Rule = fn(&State) -> bool;
+
+/// The state rules in their order, each with the number that refuses a state that breaks it.
+const RULES: [(u8, Rule); 7] = [
+    (41, State::rule_1),
+    (42, State::rule_2),
+    (43, State::rule_3),
+    (44, State::rule_4),
+    (45, State::rule_5),
+    (46, State::rule_6),
+    (47, State::rule_7),
+];
+
 /// Whether the ISR has the replica.
 pub fn in_isr(isr: u8, replica: u8) -> bool {
     replica < 8 && isr & (1 << replica) != 0
@@ -177,31 +191,23 @@ impl State {
         self.tidied() == other.tidied()
     }
 
-    /// The first state rule that is broken, 1 to 7, or 0 if all hold.
+    /// The number of the first state rule that is broken, or 0 if all hold.
     /// Each rule is tested only where those before it hold.
     pub fn broken_rule(&self) -> u8 {
-        if !self.rule_1() {
-            return 1;
-        }
-        if !self.rule_2() {
-            return 2;
-        }
-        if !self.rule_3() {
-            return 3;
-        }
-        if !self.rule_4() {
-            return 4;
-        }
-        if !self.rule_5() {
-            return 5;
-        }
-        if !self.rule_6() {
-            return 6;
-        }
-        if !self.rule_7() {
-            return 7;
+        for (number, holds) in RULES {
+            if !holds(self) {
+                return number;
+            }
         }
         0
+    }
+
+    /// Refuses a state that breaks a rule, by the number of the first one.
+    pub fn check(&self) -> Result<(), u8> {
+        match self.broken_rule() {
+            0 => Ok(()),
+            number => Err(number),
+        }
     }
 
     /// S1: R, L, M, X, next epoch and next id are in range.

@@ -6,6 +6,7 @@
 //! hw 0 and an empty log. Every ISR is full; L and M are 4, X is 3, the next epoch is 2, the next id 3.
 
 use super::rules::broken_states;
+use super::states::FOLLOWING;
 use super::{asking, Asked, Changes};
 use harness::fixed::{self, with};
 use harness::layout::*;
@@ -15,6 +16,9 @@ use second::replies::ASKS_ACT;
 /// Why the action (kind, a, b, e) is refused, and the changes of the state before it.
 type Refused = (u8, Action, Changes);
 
+/// Why an advance is refused, the member that it names, a, and the changes of the state before it.
+type Naming = (u8, u8, u8, Changes);
+
 /// An accepted action, the changes of the state before it, and those that are its effect.
 type Accepted = (Action, Changes, Changes);
 
@@ -22,6 +26,14 @@ type Accepted = (Action, Changes, Changes);
 const ONE_RECORD: (usize, u8) = (replica(2) + END, 1);
 const SECOND_RECORD: (usize, u8) = (record(2, 1), 1);
 const THIRD_RECORD: [(usize, u8); 2] = [(record(2, 2), 2), (record(2, 2) + 1, 1)];
+
+/// Replicas 1 and 2 have obeyed request 0 alone and follow replica 0.
+const FOLLOW_0: [(usize, u8); 4] = [
+    (replica(1) + EPOCH, 0),
+    (replica(1) + LEADER, 1),
+    (replica(2) + EPOCH, 0),
+    (replica(2) + LEADER, 1),
+];
 
 #[rustfmt::skip]
 const REFUSED: &[Refused] = &[
@@ -110,14 +122,9 @@ const REFUSED: &[Refused] = &[
     (16, [6, 1, 0, 0], &[(replica(1) + ISR, 6), (QUORUM_ISR, 6)]),
     (16, [6, 1, 2, 0], &[(replica(1) + ISR, 3), (QUORUM_ISR, 3)]),
     (16, [6, 1, 2, 0], &[(replica(1) + ISR, 3), (replica(1) + HW, 2), ONE_RECORD]),
-    // 7: a does not presume; a member has another leader; a member has no record at a's hw, though
-    // all below it; a itself has none there.
+    // 7: a does not presume, whatever its members lack.
     (10, [7, 2, 0, 0], &[]),
-    (17, [7, 0, 0, 0], &[]),
-    (17, [7, 1, 0, 0], &[]),
-    (17, [7, 1, 0, 0], &[(replica(1) + ISR, 3)]),
-    (17, [7, 1, 0, 0], &[(replica(1) + ISR, 6), ONE_RECORD]),
-    (17, [7, 0, 0, 0], &[(replica(0) + ISR, 1), (replica(0) + HW, 2)]),
+    (10, [7, 2, 0, 0], &[(replica(2) + ISR, 6)]),
     // 8: b does not presume; a's leader is not b; a's end is not below b's.
     (10, [8, 0, 2, 0], &[]),
     (10, [8, 2, 2, 0], &[]),
@@ -127,6 +134,44 @@ const REFUSED: &[Refused] = &[
     (19, [8, 0, 0, 0], &[]),
     (19, [8, 1, 1, 0], &[]),
     (19, [8, 2, 1, 0], &[(replica(2) + END, 3), SECOND_RECORD, THIRD_RECORD[0], THIRD_RECORD[1]]),
+];
+
+#[rustfmt::skip]
+const NAMING: &[Naming] = &[
+    // A member leads itself, or follows another, or nobody; the smallest of two such members.
+    (48, 0, 1, &[(replica(1) + ISR, 3)]),
+    (48, 1, 0, &[(replica(0) + ISR, 3)]),
+    (48, 2, 0, &[(replica(0) + ISR, 5)]),
+    (48, 2, 0, &[(replica(0) + ISR, 5), (replica(2) + EPOCH, 255), (replica(2) + LEADER, 0), (replica(2) + ISR, 0)]),
+    (48, 1, 0, &[]),
+    // It is tried over all members before the offset: a smaller member is behind, or a itself is.
+    (48, 2, 1, &[FOLLOWING[0], FOLLOWING[1], (replica(0) + END, 1), (replica(2) + EPOCH, 0), (replica(2) + LEADER, 1)]),
+    (48, 2, 0, &[FOLLOW_0[0], FOLLOW_0[1], (replica(1) + END, 1)]),
+    (48, 2, 0, &[(replica(0) + ISR, 5), (replica(0) + HW, 2)]),
+    (48, 0, 1, &[]),
+    // A member has no record at a's hw, though all below it; a itself has none there; the smallest of two.
+    (49, 0, 1, &[(replica(1) + ISR, 3), FOLLOWING[0], FOLLOWING[1], (replica(0) + END, 1)]),
+    (49, 2, 1, &[(replica(1) + ISR, 6), ONE_RECORD]),
+    (49, 0, 0, &[(replica(0) + ISR, 1), (replica(0) + HW, 2)]),
+    (49, 1, 1, &[(replica(1) + ISR, 2), (replica(1) + HW, 3)]),
+    (49, 1, 1, &[(replica(1) + ISR, 6), (replica(1) + HW, 3)]),
+    (49, 2, 0, &FOLLOW_0),
+    (49, 1, 0, &[FOLLOW_0[0], FOLLOW_0[1], FOLLOW_0[2], FOLLOW_0[3], (replica(1) + END, 1)]),
+];
+
+/// The same of the state with the stale leader, whose member 1 is behind and member 2 has no leader.
+const NAMING_OF_STALE_LEADER: &[Naming] = &[(48, 2, 0, &[])];
+
+/// The same of the full state, where replica 3 leads and all have all records, so that none has the
+/// offset of its hw.
+#[rustfmt::skip]
+const NAMING_OF_FULL: &[Naming] = &[
+    (48, 4, 3, &[(replica(4) + EPOCH, 14), (replica(4) + LEADER, 3)]),
+    (48, 2, 3, &[(replica(4) + EPOCH, 14), (replica(4) + LEADER, 3), (replica(2) + EPOCH, 13), (replica(2) + LEADER, 2)]),
+    (48, 3, 0, &[(replica(0) + EPOCH, 12), (replica(0) + LEADER, 1), (replica(0) + ISR, 25)]),
+    (49, 0, 3, &[]),
+    (49, 3, 3, &[(replica(3) + ISR, 24)]),
+    (49, 4, 3, &[(replica(3) + HW, 15), (replica(4) + HW, 15), (replica(4) + END, 15)]),
 ];
 
 #[rustfmt::skip]
@@ -188,30 +233,45 @@ const ACCEPTED: &[Accepted] = &[
         &[(replica(2) + END, 3), (replica(2) + HW, 1), THIRD_RECORD[0], THIRD_RECORD[1]]),
 ];
 
-/// Actions that the state with the stale leader allows, and an unknown kind.
-const ON_BROKEN: [Action; 2] = [[1, 0, 0, 0], [9, 9, 9, 9]];
+/// Of the state with the stale leader: an action that it allows, the advance that names a member, and
+/// an unknown kind.
+const ON_BROKEN: [Action; 3] = [[1, 0, 0, 0], [7, 0, 0, 0], [9, 9, 9, 9]];
 
 pub fn all() -> Vec<Asked> {
     let base = fixed::two_leaders();
     let mut all = Vec::new();
     for &(action, changes, effect) in ACCEPTED {
         let state = with(&base, changes);
-        all.push(act(0, action, &untidied(&state), &with(&state, effect)));
+        all.push(act(0, 0, action, &untidied(&state), &with(&state, effect)));
     }
     for &(number, action, changes) in REFUSED {
-        let untidy = untidied(&with(&base, changes));
-        all.push(act(number, action, &untidy, &untidy));
+        all.push(refused(number, 0, action, &untidied(&with(&base, changes))));
     }
-    for state in broken_states() {
+    for (state, naming) in [
+        (base, NAMING),
+        (fixed::stale_leader(), NAMING_OF_STALE_LEADER),
+        (fixed::full(), NAMING_OF_FULL),
+    ] {
+        for &(number, member, a, changes) in naming {
+            let untidy = untidied(&with(&state, changes));
+            all.push(refused(number, member, [7, a, 0, 0], &untidy));
+        }
+    }
+    for (number, state) in broken_states() {
         for action in ON_BROKEN {
-            all.push(act(1, action, &state, &state));
+            all.push(refused(number, 0, action, &state));
         }
     }
     all
 }
 
-/// What an action answers: a number and a state.
-fn act(number: u8, action: Action, state: &Flat, answered: &Flat) -> Asked {
-    let front = format!("act {} {}", number, hex(answered));
+/// A refusal gives back the state that it was given.
+fn refused(number: u8, member: u8, action: Action, state: &Flat) -> Asked {
+    act(number, member, action, state, state)
+}
+
+/// What an action answers: a number, a member and a state.
+fn act(number: u8, member: u8, action: Action, state: &Flat, answered: &Flat) -> Asked {
+    let front = format!("act {} {} {}", number, member, hex(answered));
     asking(ASKS_ACT, &[&action, state], front)
 }

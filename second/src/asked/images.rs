@@ -62,14 +62,14 @@ const UNREAD: &[Unread] = &[
     (22, WHOLE, &[(head(R), 6), (head(NEXT_EPOCH), 5)]),
     (22, 10, &[(head(M), 65)]),
     // The next epoch and the next id, whatever is behind them.
-    (1, WHOLE, &[(head(NEXT_EPOCH), 5)]),
-    (1, WHOLE, &[(head(NEXT_EPOCH), 17)]),
-    (1, WHOLE, &[(head(NEXT_EPOCH), 255)]),
-    (1, WHOLE, &[(head(NEXT_ID), 10)]),
-    (1, WHOLE, &[(head(NEXT_ID), 255)]),
-    (1, 10, &[(head(NEXT_EPOCH), 5)]),
-    (1, 10, &[(head(NEXT_ID), 10)]),
-    (1, WHOLE + 1, &[(head(NEXT_ID), 10)]),
+    (41, WHOLE, &[(head(NEXT_EPOCH), 5)]),
+    (41, WHOLE, &[(head(NEXT_EPOCH), 17)]),
+    (41, WHOLE, &[(head(NEXT_EPOCH), 255)]),
+    (41, WHOLE, &[(head(NEXT_ID), 10)]),
+    (41, WHOLE, &[(head(NEXT_ID), 255)]),
+    (41, 10, &[(head(NEXT_EPOCH), 5)]),
+    (41, 10, &[(head(NEXT_ID), 10)]),
+    (41, WHOLE + 1, &[(head(NEXT_ID), 10)]),
     // A part is missing: requests, blocks of replicas, records; wholly or by a byte.
     (21, 10, &[]),
     (21, 11, &[]),
@@ -87,67 +87,96 @@ const UNREAD: &[Unread] = &[
     // The full log of replica 0 takes what the others need.
     (21, WHOLE, &[(IMAGE_REPLICAS[0] + END, 6)]),
     // An end above L, whatever is behind it; what is missing before it counts.
-    (1, WHOLE, &[(IMAGE_REPLICAS[0] + END, 7)]),
-    (1, WHOLE, &[(IMAGE_REPLICAS[1] + END, 16)]),
-    (1, WHOLE, &[(IMAGE_REPLICAS[2] + END, 7)]),
-    (1, WHOLE, &[(IMAGE_REPLICAS[2] + END, 255)]),
-    (1, 19, &[(IMAGE_REPLICAS[0] + END, 7)]),
-    (1, WHOLE + 1, &[(IMAGE_REPLICAS[0] + END, 255)]),
+    (42, WHOLE, &[(IMAGE_REPLICAS[0] + END, 7)]),
+    (42, WHOLE, &[(IMAGE_REPLICAS[1] + END, 16)]),
+    (42, WHOLE, &[(IMAGE_REPLICAS[2] + END, 7)]),
+    (42, WHOLE, &[(IMAGE_REPLICAS[2] + END, 255)]),
+    (42, 19, &[(IMAGE_REPLICAS[0] + END, 7)]),
+    (42, WHOLE + 1, &[(IMAGE_REPLICAS[0] + END, 255)]),
     (21, 18, &[(IMAGE_REPLICAS[0] + END, 7)]),
     (21, 27, &[(IMAGE_REPLICAS[1] + END, 7)]),
-    // Bytes left over, also where another rule is broken.
+    (21, WHOLE, &[(IMAGE_REPLICAS[0] + END, 6), (IMAGE_REPLICAS[2] + END, 7)]),
+    // Bytes left over, also where a rule is broken that is not met on the way.
     (23, WHOLE + 1, &[]),
     (23, WHOLE + 2, &[]),
     (23, 255, &[]),
     (23, WHOLE, &[(head(R), 2)]),
+    (23, WHOLE + 1, &[(IMAGE_QUORUM, 3)]),
     (23, WHOLE + 1, &[(IMAGE_QUORUM, 0)]),
+    (23, WHOLE + 1, &[(IMAGE_QUORUM + 1, 5)]),
+    (23, WHOLE + 1, &[(IMAGE_REPLICAS[0] + HW, 3)]),
     (23, WHOLE + 1, &[(image_record(0, 0), 3)]),
+    (23, WHOLE + 1, &[(image_record(0, 0) + 1, 1)]),
     // S2: a leader that is not below R, an ISR that is not within the replicas.
-    (1, WHOLE, &[(IMAGE_QUORUM, 3)]),
-    (1, WHOLE, &[(IMAGE_QUORUM + 1, 15)]),
-    (1, WHOLE, &[(IMAGE_REQUESTS[0], 254)]),
-    (1, WHOLE, &[(IMAGE_REPLICAS[2] + LEADER, 3)]),
-    (1, WHOLE, &[(IMAGE_REPLICAS[0] + ISR, 8)]),
+    (42, WHOLE, &[(IMAGE_QUORUM, 3)]),
+    (42, WHOLE, &[(IMAGE_QUORUM + 1, 15)]),
+    (42, WHOLE, &[(IMAGE_REQUESTS[0], 254)]),
+    (42, WHOLE, &[(IMAGE_REPLICAS[2] + LEADER, 3)]),
+    (42, WHOLE, &[(IMAGE_REPLICAS[0] + ISR, 8)]),
     // S3: another leader than the last request's, or none.
-    (1, WHOLE, &[(IMAGE_QUORUM, 0)]),
-    (1, WHOLE, &[(IMAGE_QUORUM, 255)]),
-    (1, WHOLE, &[(IMAGE_REQUESTS[1], 2)]),
+    (43, WHOLE, &[(IMAGE_QUORUM, 0)]),
+    (43, WHOLE, &[(IMAGE_QUORUM, 255)]),
+    (43, WHOLE, &[(IMAGE_REQUESTS[1], 2)]),
     // S4: a leader that is not in the ISR.
-    (1, WHOLE, &[(IMAGE_QUORUM + 1, 5)]),
-    (1, WHOLE, &[(IMAGE_REQUESTS[0] + 1, 6)]),
+    (44, WHOLE, &[(IMAGE_QUORUM + 1, 5)]),
+    (44, WHOLE, &[(IMAGE_REQUESTS[0] + 1, 6)]),
     // S5: an hw above the end, an epoch that is not used or under -1, a leader that is not its request's.
-    (1, WHOLE, &[(IMAGE_REPLICAS[0] + HW, 3)]),
-    (1, WHOLE, &[(IMAGE_REPLICAS[2] + EPOCH, 2)]),
-    (1, WHOLE, &[(IMAGE_REPLICAS[2] + EPOCH, 254)]),
-    (1, WHOLE, &[(IMAGE_REPLICAS[2] + EPOCH, 255)]),
-    (1, WHOLE, &[(IMAGE_REPLICAS[2] + LEADER, 255)]),
-    (1, WHOLE, &[(IMAGE_REPLICAS[1] + ISR, 5)]),
+    (45, WHOLE, &[(IMAGE_REPLICAS[0] + HW, 3)]),
+    (45, WHOLE, &[(IMAGE_REPLICAS[2] + EPOCH, 2)]),
+    (45, WHOLE, &[(IMAGE_REPLICAS[2] + EPOCH, 254)]),
+    (45, WHOLE, &[(IMAGE_REPLICAS[2] + EPOCH, 255)]),
+    (45, WHOLE, &[(IMAGE_REPLICAS[2] + LEADER, 255)]),
+    (45, WHOLE, &[(IMAGE_REPLICAS[1] + ISR, 5)]),
     // S6: an id or an epoch that is not used.
-    (1, WHOLE, &[(image_record(1, 2), 3)]),
-    (1, WHOLE, &[(image_record(1, 2) + 1, 2)]),
-    (1, WHOLE, &[(image_record(0, 1) + 1, 255)]),
+    (46, WHOLE, &[(image_record(1, 2), 3)]),
+    (46, WHOLE, &[(image_record(1, 2) + 1, 2)]),
+    (46, WHOLE, &[(image_record(0, 1) + 1, 255)]),
     // S7: an id at two offsets, or with two epochs.
-    (1, WHOLE, &[(image_record(1, 2), 0)]),
-    (1, WHOLE, &[(image_record(0, 0) + 1, 1)]),
+    (47, WHOLE, &[(image_record(1, 2), 0)]),
+    (47, WHOLE, &[(image_record(0, 0) + 1, 1)]),
+];
+
+/// The number of a rule and a change of the image that breaks it alone. Two at a time, the earlier
+/// rule counts.
+const BREAKING: &[(u8, (usize, u8))] = &[
+    (41, (head(NEXT_ID), 10)),
+    (42, (IMAGE_REPLICAS[2] + END, 7)),
+    (42, (IMAGE_REPLICAS[2] + ISR, 15)),
+    (43, (IMAGE_REQUESTS[1], 2)),
+    (44, (IMAGE_REQUESTS[0] + 1, 6)),
+    (45, (IMAGE_REPLICAS[2] + EPOCH, 2)),
+    (46, (image_record(1, 2) + 1, 2)),
+    (47, (image_record(0, 0) + 1, 1)),
 ];
 
 pub fn all() -> Vec<Asked> {
     let mut all = written();
-    for state in broken_states() {
+    for (number, state) in broken_states() {
         for n in [0, 39, 255] {
-            all.push(unwritten(1, n, &state));
+            all.push(unwritten(number, n, &state));
         }
     }
     all.extend(read());
     for &(number, length, changes) in UNREAD {
-        let mut image = as_image(&read_state());
-        for &(at, value) in changes {
-            image[at] = value;
+        all.push(unread(number, length, changes));
+    }
+    for (i, &(number, fault)) in BREAKING.iter().enumerate() {
+        for &(_, later) in &BREAKING[i + 1..] {
+            all.push(unread(number, WHOLE, &[fault, later]));
         }
-        image.resize(length, 0);
-        all.push(reading(number, &image, &[0; STATE]));
     }
     all
+}
+
+/// What reading answers of the image of `read_state` with some of its bytes changed, cut or padded
+/// to a length.
+fn unread(number: u8, length: usize, changes: &[(usize, u8)]) -> Asked {
+    let mut image = as_image(&read_state());
+    for &(at, value) in changes {
+        image[at] = value;
+    }
+    image.resize(length, 0);
+    reading(number, &image, &[0; STATE])
 }
 
 /// The state with two leaders, with L and M that differ.

@@ -127,15 +127,15 @@ const OFFERS: &[Offered] = &[
 ];
 
 /// Replica 0 has obeyed request 1 and follows replica 1.
-const FOLLOWING: [(usize, u8); 2] = [(replica(0) + EPOCH, 1), (replica(0) + LEADER, 2)];
+pub const FOLLOWING: [(usize, u8); 2] = [(replica(0) + EPOCH, 1), (replica(0) + LEADER, 2)];
 
 pub fn all() -> Vec<Asked> {
     let mut all = renamings_asked();
     all.extend(representatives());
     all.extend(isrs());
     all.extend(offers());
-    for state in broken_states() {
-        all.extend(of_broken(&state));
+    for (number, state) in broken_states() {
+        all.extend(of_broken(number, &state));
     }
     all
 }
@@ -261,16 +261,16 @@ fn offer(number: u8, kind: u8, [a, b, e]: [u8; 3], state: &Flat) -> Asked {
     asking(ASKS_OFFER, &[&[kind], state], front)
 }
 
-/// Of a state that breaks a rule all are refused by 1, whatever else is asked with it.
-fn of_broken(state: &Flat) -> Vec<Asked> {
-    let front = format!("representative 1 {}", hex(state));
+/// Of a state that breaks a rule all are refused by the rule's number, whatever else is asked with it.
+fn of_broken(number: u8, state: &Flat) -> Vec<Asked> {
+    let front = format!("representative {} {}", number, hex(state));
     vec![
-        no_renaming(1, &[1, 0, 2, 3, 4], state),
-        no_renaming(1, &[3, 3, 3, 3, 3], state),
+        no_renaming(number, &[1, 0, 2, 3, 4], state),
+        no_renaming(number, &[3, 3, 3, 3, 3], state),
         asking(ASKS_REPRESENTATIVE, &[state], front),
-        isr(ASKS_WEAK, 1, [0; 4], state),
-        isr(ASKS_STRONG, 1, [0; 4], state),
-        offer(1, 0, [0; 3], state),
-        offer(1, 9, [0; 3], state),
+        isr(ASKS_WEAK, number, [0; 4], state),
+        isr(ASKS_STRONG, number, [0; 4], state),
+        offer(number, 0, [0; 3], state),
+        offer(number, 9, [0; 3], state),
     ]
 }

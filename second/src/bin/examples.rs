@@ -1,7 +1,7 @@
 //! The ten marked examples and the listing of `runcheck`, as tests.
 //! Prints how many passed and failed, and exits 1 if any failed.
 
-use second::actions::act;
+use second::actions::{act, Refusal};
 use second::images::{read_image, write_image};
 use second::names::{rename, renamings, representative};
 use second::printed::listing;
@@ -31,7 +31,7 @@ const PAPER_RUN: &str = "4B4303040403 4B4101000000 4B4102000000 4B4103010000 \
                          4B4103020000 4B4104000000 4B4108010000 4B4107000000";
 
 const PAPER_LISTING: &str = "accepted 6
-refusal 17
+refusal 49
 at 42
 weak 0
 strong 0
@@ -75,7 +75,14 @@ const REPLICATE_0_FROM_0: [u8; 4] = [8, 0, 0, 0];
 fn examples_1_to_3(tally: &mut Tally) {
     let run = from_hex(PAPER_RUN);
     let verdict = judge(&run);
-    tally.check("example 1", verdict.numbers() == [6, 17, 42, 0, 0, 0]);
+    tally.check("example 1", verdict.numbers() == [6, 49, 42, 0, 0, 0]);
+    // Replicas 0 and 1 have the record, replica 2 has not.
+    let behind = Refusal {
+        number: 49,
+        member: 2,
+    };
+    let advanced = act(&verdict.state, 7, 0, 0, 0);
+    tally.check("example 1, member", advanced == Err(behind));
     tally.check("listing", listing(&run) == PAPER_LISTING);
 
     let exchanged = rename(&verdict.state, &[0, 2, 1, 3, 4]);
@@ -146,7 +153,7 @@ fn examples_6_to_9(tally: &mut Tally) {
     let verdict = judge(&make_run(SMALL, &[ELECT_0, LEADER_0, ADVANCE_0]));
     tally.check(
         "example 8, advance",
-        verdict.numbers() == [2, 17, 18, 0, 0, 0],
+        verdict.numbers() == [2, 49, 18, 0, 0, 0],
     );
 
     let verdict = judge(&make_run([2, 4, 4, 0], &[ELECT_0, SHRINK_0]));
@@ -213,7 +220,8 @@ fn other_answers(tally: &mut Tally) {
         offer(&verdict.state, 8) == Ok((2, 0, 0)),
     );
     tally.check("offer of advance", offer(&verdict.state, 7) == Err(26));
-    tally.check("a kind above 8", act(&verdict.state, 9, 9, 9, 9) == Err(2));
+    let unknown = act(&verdict.state, 9, 9, 9, 9);
+    tally.check("a kind above 8", unknown == Err(2.into()));
     let mut count = 1;
     for r in 1..=5 {
         count *= r as usize;
