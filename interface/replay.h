@@ -58,9 +58,9 @@
  *     27  the places are not five, or not a renaming of the replicas
  *     41  S1 is broken: R, L, M or X is out of range, the next epoch is above X+1, or the next record id above M
  *     42  S2 is broken: a log's end is above L, a leader is not below R, or an ISR is not within the replicas
- *     43  S3 is broken: the quorum's epoch is not the last one, or its leader, at the start its ISR, is not the one of that epoch
+ *     43  S3 is broken: the quorum's epoch is not the last one, or its leader, before any request also its ISR, is not as that asks
  *     44  S4 is broken: in the quorum or in a request the leader is not in the ISR there
- *     45  S5 is broken: a replica's epoch, or its leader or ISR by its epoch, its own ISR without itself, or its high watermark
+ *     45  S5 is broken: a replica's epoch, its leader or ISR by that epoch, its own ISR without itself, or its hw above its end
  *     46  S6 is broken: a record's id is not below the next id, or its epoch not one used
  *     47  S7 is broken: records with one id stand at two offsets or carry two epochs
  *     48  some member of the replica's own ISR does not have the replica as its leader
@@ -76,7 +76,7 @@
 extern "C" {
 #endif
 
-/* What changed for callers: 2 names the broken rule and the member (1 and 17 are gone; replay_act returns 32 bits). 1 was before. */
+/* The version of this interface. It goes up where a caller has to change; interface/README.md says what changed. */
 #define REPLAY_VERSION 2
 
 /* How many bytes a flat state, an answer on weak or strong ISR, an offer and a verdict have, and an image at most. */

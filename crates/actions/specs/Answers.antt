@@ -75,34 +75,34 @@ actionNumbers =
     ∷ []
 
 -- by the table each kind gives those of its own row, column "refusals"
-unfoldable pub tableNumbers : Kind → List ℕ
-tableNumbers ControllerShrinkIsr = notInIsr ∷ noEpochLeft ∷ []
-tableNumbers ControllerElectLeader = notInIsr ∷ alreadySo ∷ noEpochLeft ∷ []
-tableNumbers BecomeLeader = noRequest ∷ wrongLeader ∷ epochNotHigher ∷ []
-tableNumbers BecomeFollower = noRequest ∷ wrongLeader ∷ epochNotHigher ∷ []
-tableNumbers LeaderWrite = notPresuming ∷ noIdLeft ∷ logFull ∷ []
-tableNumbers LeaderShrinkIsr = sameReplica ∷ notTrueLeader ∷ notInIsr ∷ caughtUp ∷ []
-tableNumbers LeaderExpandIsr = notTrueLeader ∷ alreadySo ∷ notCaughtUp ∷ []
-tableNumbers LeaderIncHighWatermark = notPresuming ∷ memberNotFollowing ∷ memberLacksOffset ∷ []
-tableNumbers FollowerReplicate = notPresuming ∷ notFollowing ∷ nothingToReplicate ∷ []
-tableNumbers Unknown = unknownKind ∷ []
+unfoldable pub rowNumbers : Kind → List ℕ
+rowNumbers ControllerShrinkIsr = notInIsr ∷ noEpochLeft ∷ []
+rowNumbers ControllerElectLeader = notInIsr ∷ alreadySo ∷ noEpochLeft ∷ []
+rowNumbers BecomeLeader = noRequest ∷ wrongLeader ∷ epochNotHigher ∷ []
+rowNumbers BecomeFollower = noRequest ∷ wrongLeader ∷ epochNotHigher ∷ []
+rowNumbers LeaderWrite = notPresuming ∷ noIdLeft ∷ logFull ∷ []
+rowNumbers LeaderShrinkIsr = sameReplica ∷ notTrueLeader ∷ notInIsr ∷ caughtUp ∷ []
+rowNumbers LeaderExpandIsr = notTrueLeader ∷ alreadySo ∷ notCaughtUp ∷ []
+rowNumbers LeaderIncHighWatermark = notPresuming ∷ memberNotFollowing ∷ memberLacksOffset ∷ []
+rowNumbers FollowerReplicate = notPresuming ∷ notFollowing ∷ nothingToReplicate ∷ []
+rowNumbers Unknown = unknownKind ∷ []
 
 -- 0 or a number of the kind's row; a chain of such numbers gives such a number
 abbrev InRow : Kind → ℕ → Type 0
-InRow kind n = listed (accepted ∷ tableNumbers kind) n ≡ true
+InRow kind n = listed (accepted ∷ rowNumbers kind) n ≡ true
 
 refuse-row : (kind : Kind) (test : Bool) (number rest : ℕ) → InRow kind number → InRow kind rest → InRow kind (refuse test number rest)
-refuse-row kind = listed-refuse (accepted ∷ tableNumbers kind)
+refuse-row kind = listed-refuse (accepted ∷ rowNumbers kind)
 
 module _ (s : State) where
   leader-in-row : (e : ℕ) (leader : Leader) → InRow BecomeLeader (leaderRefusal s e leader)
-  unfolding leaderRefusal listed tableNumbers
+  unfolding leaderRefusal listed rowNumbers
   leader-in-row e None = refl
   leader-in-row e (Some b) = refuse-row BecomeLeader _ _ _ refl refl
 
   pub table-listed : (kind : Kind) (a b e : ℕ) → InRow kind (tableRefusal kind s a b e)
   unfolding tableRefusal controllerShrinkIsrRefusal controllerElectLeaderRefusal becomeLeaderRefusal becomeFollowerRefusal leaderWriteRefusal
-      leaderShrinkIsrRefusal leaderExpandIsrRefusal leaderIncHighWatermarkRefusal followerReplicateRefusal listed tableNumbers
+      leaderShrinkIsrRefusal leaderExpandIsrRefusal leaderIncHighWatermarkRefusal followerReplicateRefusal listed rowNumbers
   table-listed ControllerShrinkIsr a b e = let row = refuse-row ControllerShrinkIsr in row _ _ _ refl (row _ _ _ refl refl)
   table-listed ControllerElectLeader a b e =
       let row = refuse-row ControllerElectLeader in row _ _ _ refl (row _ _ _ refl (row _ _ _ refl refl))
@@ -118,8 +118,8 @@ module _ (s : State) where
   table-listed Unknown a b e = refl
 
 -- each row is within the list of all
-row-within : (kind : Kind) → every (map (listed (accepted ∷ actionNumbers)) (accepted ∷ tableNumbers kind)) ≡ true
-unfolding listed every tableNumbers
+row-within : (kind : Kind) → every (map (listed (accepted ∷ actionNumbers)) (accepted ∷ rowNumbers kind)) ≡ true
+unfolding listed every rowNumbers
 row-within ControllerShrinkIsr = refl
 row-within ControllerElectLeader = refl
 row-within BecomeLeader = refl
@@ -139,7 +139,7 @@ action-listed s action =
     let listed-by = listed-refuse (accepted ∷ actionNumbers) in
     listed-by _ _ _ refl
     (listed-by _ _ _ refl
-    (listed-within (accepted ∷ tableNumbers kind) (accepted ∷ actionNumbers) (tableRefusal kind s (action .a) (action .b) (action .e)) (row-within kind)
+    (listed-within (accepted ∷ rowNumbers kind) (accepted ∷ actionNumbers) (tableRefusal kind s (action .a) (action .b) (action .e)) (row-within kind)
     (table-listed s kind (action .a) (action .b) (action .e))))
 
 -- of one on a state that meets the rules

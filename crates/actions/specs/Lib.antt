@@ -8,4 +8,4 @@ pub mod Changes
 pub mod Kinds
 pub mod Kept
 pub mod Answers
-pub mod Named
+pub mod MemberNamed

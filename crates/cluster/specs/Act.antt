@@ -136,7 +136,7 @@ acceptedWith next = actionAnswer accepted 0 next
 abbrev pub refusedOn : State → ℕ → ℕ → ActionAnswer
 refusedOn given member number = actionAnswer number member given
 
--- the answer without the member that it names: "no verdict carries it", and a renaming leaves it out
+-- the answer without the member that it names: "no verdict carries it", and "Demand 3 leaves out the member named"
 abbrev pub withoutMember : ActionAnswer → ActionAnswer
 withoutMember a = actionAnswer (a .refusal) 0 (a .state)
 

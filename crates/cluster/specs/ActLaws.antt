@@ -209,7 +209,7 @@ first-operand s action h kind operand = go (ltb lastKind (action .kind)) refl (o
     go false e false f = absurd (operand (sym (refuse-yes _ badOperand _ (ap not f) ∙ refuse-no _ unknownKind _ e)))
     go false e true f = fits-first s action h f
 
--- so where 48 or 49 is given, it is one of five
+-- so where the number is above 3, the first operand is below five
 pub named-operand : (s : State) (action : Action) (n : ℕ) → rules s ≡ true → badOperand < n → n ≡ actionRefusal s action → action .a < 5
 named-operand s action n h l e =
     replica-five s h (action .a) (first-operand s action h (λ k. omega (arith, k, e, l)) (λ k. omega (arith, k, e, l)))

@@ -21,7 +21,7 @@ use lib.Dec.{eqb, leb, eqb·suc-zero}
 use lib.IntN.{ℤ, pos, negsuc}
 use lib.ListN.{drop, length, getD}
 use borrow.Author.Tests.{leb-true}
-use Rattle.logic.specs.Refuse.{listed, listed-other, listed-not, distinct, FirstFails, refuseUnless, unless-here, unless-later, unless-listed, unless-zero, unless-first}
+use Rattle.logic.specs.Refuse.{listed, listed-other, listed-not, distinct, FailsFirst, refuseUnless, unless-here, unless-later, unless-listed, unless-zero, unless-first}
 use Rattle.logic.specs.Tests.{all-at, every-at, and-left, and-right, true-false, refuted-iff}
 use Rattle.parts.specs.declared.Leader.{Leader}
 use Rattle.parts.specs.declared.Leader.the-variants.{None}
@@ -183,7 +183,7 @@ broken-listed-iff s = (
 )
 
 -- and the number at place k exactly where rule S(k+1) is the first that it breaks
-pub broken-first : (s : State) (k : ℕ) → k < length stateNumbers → stateRefusal s ≡ getD stateNumbers k accepted ↔ FirstFails (ruleTests s) k
+pub broken-first : (s : State) (k : ℕ) → k < length stateNumbers → stateRefusal s ≡ getD stateNumbers k accepted ↔ FailsFirst (ruleTests s) k
 unfolding stateRefusal listed distinct
 broken-first s k l = unless-first stateNumbers (ruleTests s) k refl l refl refl
 

@@ -1,7 +1,6 @@
 -- The rules look at no unused room: equal states break the same rule first. Assumes nothing.
 --
 --   state-refusal-same    equal states break the same rule first, and so are refused alike
---   state-refusal-same    they have the same refusal
 --   rules-same            both meet the rules, or neither
 --   state-refusal-tidy    a state and its tidy form break the same rule first
 --   rules-tidy            both meet the rules, or neither

@@ -220,7 +220,7 @@ impl State {
     }
 
     // What the members of a's ISR give: 48 where one gives it, whatever the others do, else 49 where one gives that, else 0. One pass
-    // asks both of each, as `first_not_passing` does where a member is named: a call of it for each copies the state each time.
+    // asks both of each member: a call of `first_not_passing` for each question would copy the state again.
     fn members_refusal(self, a: u8) -> u8
         requires { ⌜ rules self ≡ true ⌝ }
         requires { ⌜ a < 5 ⌝ }

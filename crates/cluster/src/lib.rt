@@ -99,8 +99,8 @@ pub struct Bounds {
     pub e: u8,
 }
 
-// What raising a leader's high watermark asks of every member of its ISR: that the leader is the member's own, and that the
-// member has the offset of the high watermark.
+// What raising a leader's high watermark asks of every member of its ISR: that the member's leader is that one, and that the member
+// has the offset of that leader's high watermark.
 pub enum MemberTest {
     IsFollowing,
     HasOffset,

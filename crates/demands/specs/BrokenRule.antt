@@ -12,7 +12,7 @@ use mathlib.Core.Logic.{_↔_}
 use lib.Dec.{ltb}
 use lib.ListN.{length, getD}
 use Rattle.logic.specs.Tests.{every, every-at, true-false}
-use Rattle.logic.specs.Refuse.{firstRefusal, refuse, by-number, listed, listed-at, listed-apart, first-yes, first-no, FirstFails}
+use Rattle.logic.specs.Refuse.{firstRefusal, refuse, by-number, listed, listed-at, listed-apart, first-yes, first-no, FailsFirst}
 use Rattle.parts.specs.Refusal.{accepted, bufferShort, notRenaming}
 use Rattle.cluster.specs.declared.State.{State}
 use Rattle.cluster.specs.declared.Action.{Action}
@@ -39,10 +39,10 @@ use Rattle.representatives.specs.CodeLaws.{represent-number}
 
 -- "41 to 47 stand for S1 to S7 in place of 1, in its place in every order"
 abbrev pub NamesRule : State → ℕ → Type 0
-NamesRule s n = (k : ℕ) → k < length stateNumbers → n ≡ getD stateNumbers k accepted ↔ FirstFails (ruleTests s) k
+NamesRule s n = (k : ℕ) → k < length stateNumbers → n ≡ getD stateNumbers k accepted ↔ FailsFirst (ruleTests s) k
 
 -- a state that meets the rules breaks none first
-none-first : (s : State) (k : ℕ) → rules s ≡ true → FirstFails (ruleTests s) k → ⊥
+none-first : (s : State) (k : ℕ) → rules s ≡ true → FailsFirst (ruleTests s) k → ⊥
 unfolding rules
 none-first s k h f = true-false (sym (every-at (ruleTests s) h k) ∙ f .fails)
 
@@ -50,7 +50,7 @@ none-first s k h f = true-false (sym (every-at (ruleTests s) h k) ∙ f .fails)
 names-rule : (s : State) (n : ℕ) → (rules s ≡ false → n ≡ stateRefusal s) → (rules s ≡ true → listed stateNumbers n ≡ false) → NamesRule s n
 names-rule s n broken met k l = go (rules s) refl
   where
-    go : (b : Bool) → rules s ≡ b → n ≡ getD stateNumbers k accepted ↔ FirstFails (ruleTests s) k
+    go : (b : Bool) → rules s ≡ b → n ≡ getD stateNumbers k accepted ↔ FailsFirst (ruleTests s) k
     go false h = ((λ e. broken-first s k l .0 (sym (broken h) ∙ e)), (λ f. broken h ∙ broken-first s k l .1 f))
     go true h = (
       (λ e. absurd (true-false (sym (listed-at stateNumbers k l) ∙ ap (listed stateNumbers) (sym e) ∙ met h))),
@@ -58,10 +58,10 @@ names-rule s n broken met k l = go (rules s) refl
     )
 
 -- so of a number that is the state's, and of one that comes behind it and is none of 41 to 47
-state-names-rule : (s : State) (n : ℕ) → n ≡ stateRefusal s → NamesRule s n
+pub state-names-rule : (s : State) (n : ℕ) → n ≡ stateRefusal s → NamesRule s n
 state-names-rule s n e k l = ((λ h. broken-first s k l .0 (sym e ∙ h)), (λ f. e ∙ broken-first s k l .1 f))
 
-behind-names-rule : (s : State) (rest : ℕ) → listed stateNumbers rest ≡ false → NamesRule s (firstRefusal (stateRefusal s) rest)
+pub behind-names-rule : (s : State) (rest : ℕ) → listed stateNumbers rest ≡ false → NamesRule s (firstRefusal (stateRefusal s) rest)
 behind-names-rule s rest other =
     names-rule s (firstRefusal (stateRefusal s) rest)
     (λ h. sym (first-yes (stateRefusal s) rest (broken-refusal s h)))
@@ -74,12 +74,12 @@ one-refusal false number h = refl
 
 -- every answer on a state: an action, weak and strong ISR, an offer, writing, renaming, the representative
 pub record AllNameRule (s : State) : Type 0 where
-  pub action : (action : Action) → NamesRule s (act s action .refusal)
-  pub isr : (property : Property) → NamesRule s (askIsr property s .refusal)
-  pub offer : (kind : ℕ) → NamesRule s (offer s kind .refusal)
-  pub writing : (buffer : List ℕ) → NamesRule s (writeImage s buffer .refusal)
-  pub renaming : (p : List ℕ) → NamesRule s (rename s p .refusal)
-  pub representative : NamesRule s (represent s .refusal)
+  pub by-action : (action : Action) → NamesRule s (act s action .refusal)
+  pub by-isr : (property : Property) → NamesRule s (askIsr property s .refusal)
+  pub by-offer : (kind : ℕ) → NamesRule s (offer s kind .refusal)
+  pub by-writing : (buffer : List ℕ) → NamesRule s (writeImage s buffer .refusal)
+  pub by-renaming : (p : List ℕ) → NamesRule s (rename s p .refusal)
+  pub by-representative : NamesRule s (represent s .refusal)
 
 action-names : (s : State) (action : Action) → NamesRule s (act s action .refusal)
 unfolding listed every
@@ -111,10 +111,10 @@ renaming-names s p =
 pub all-name-rule : (s : State) → AllNameRule s
 all-name-rule s =
     record {
-      action = action-names s;
-      isr = λ property. state-names-rule s (askIsr property s .refusal) (isr-number property s);
-      offer = offer-names s;
-      writing = writing-names s;
-      renaming = renaming-names s;
-      representative = state-names-rule s (represent s .refusal) (represent-number s);
+      by-action = action-names s;
+      by-isr = λ property. state-names-rule s (askIsr property s .refusal) (isr-number property s);
+      by-offer = offer-names s;
+      by-writing = writing-names s;
+      by-renaming = renaming-names s;
+      by-representative = state-names-rule s (represent s .refusal) (represent-number s);
     }

@@ -1,6 +1,6 @@
 -- The three demands, in their own order and words. Each is one statement over every state, action, row of bytes and renaming that
 -- it speaks of; below it stands its proof, which cites. The contract of each entry point is an equation with one of these
--- definitions, for every input, or says that it replies what such an answer gives (`Replies`, of the C interface); so what holds
+-- definitions, for every input, or says that it replies what such an answer gives (`Replies`, `numberAndMember` and `numberAndLength`, of the C interface); so what holds
 -- of the definitions holds of what the library answers. That the functions end and are safe is part of their proofs. A state,
 -- action or buffer is any value of its type, and bytes are any list of numbers; where only numbers below 256 are meant, `Bytes`
 -- says so. Assumes nothing.
@@ -9,6 +9,7 @@
 --     fresh-answers .. representative-answers     every answer has 0 or a number of its list
 --     fresh-in-range .. representative-by-state   which input is refused
 --     state-rules .. broken-representative        what is answered of a state that breaks a rule
+--     names-smallest-member, no-member-named      the member that an action's answer names
 --     action-gives-back .. interface-leaves       what stands beside a refusal: the state as given, zeros, the buffer as it was
 --     run-answers .. run-zeros                    the same of a run
 --   Demand2                                       actions, images and verdicts are those of the model and of the rules
@@ -52,16 +53,17 @@ use Rattle.cluster.specs.FreshLaws.{freshNumbers, fresh-listed, fresh-refused-z
 use Rattle.cluster.specs.Actions.{replicaPresumesLeadership}
 use Rattle.cluster.specs.Act.{actionAnswer, withoutMember, refusedOn, act}
 use Rattle.actions.specs.Kept.{Kept, act-kept}
-use Rattle.actions.specs.Named.{testNumber, SmallestMember, member-named, member-none}
+use Rattle.actions.specs.MemberNamed.{testNumber, SmallestMember, member-named, member-none}
 use Rattle.actions.specs.Answers.{actionNumbers, act-number, act-given, act-unmet, refusal-listed}
 use Rattle.questions.specs.declared.Property.{Property}
 use Rattle.questions.specs.Isr.{isrRefused, askIsr}
 use Rattle.questions.specs.IsrTheorems.{isr-broken, isr-listed, isr-number}
 use Rattle.questions.specs.Offer.{offerRefused, offer}
 use Rattle.questions.specs.OfferTheorems.{offerNumbers, offer-listed, offer-broken-is, offer-zeros}
-use Rattle.images.specs.Image.{image, written, writeImage, bufferAfter}
+use Rattle.images.specs.Image.{headerWidth, image, written, writeImage, bufferAfter}
 use Rattle.images.specs.WriteLaws.{writeNumbers, write-listed, write-refused, writes-broken, writes-all, writes-short}
-use Rattle.images.specs.Read.{headerRefusal, bodyOf, readImage}
+use Rattle.images.specs.Read.{endAbove, headerRefusal, bodyOf, readImage}
+use Rattle.images.specs.EndAbove.{EndAboveMet, end-above-iff}
 use Rattle.images.specs.ReadNumbers.{HeaderBreaks, ReadBreaks, read-breaks-s1, read-breaks}
 use Rattle.images.specs.RoundTrip.{image-bytes, read-meets-rules}
 use Rattle.images.specs.ImageTheorems.{readNumbers, read-listed, read-refused-zero, read-iff-image, read-equal-is-image, image-iff}
@@ -73,10 +75,11 @@ use Rattle.renamings.specs.RenameTheorems.{renamed-act, SmallestNewName, rename
 use Rattle.representatives.specs.Representative.{representative, represent}
 use Rattle.representatives.specs.CodeLaws.{represent-listed, represent-given, represent-broken, represent-is, represent-number}
 use Rattle.representatives.specs.RepresentativeTheorems.{is-renamed, equal-or-greater, representatives-equal}
-use Rattle.published.specs.KafkaReplication.{ModelState, Init, WeakIsr, StrongIsr, Next}
+use Rattle.published.specs.KafkaReplication.{ModelState, _isIn_, ReplicaLog·HasOffset, ReplicaPresumesLeadership, ReplicaIsFollowing, Init, WeakIsr, StrongIsr, Next}
 use Rattle.published.specs.Meaning.{constantsOf, meaning, Means}
 use Rattle.published.specs.Choices.{Choice}
 use Rattle.published.specs.Engine.{action-is-published}
+use Rattle.published.specs.Advance.{advance, advance-not-following, advance-lacks-offset, advance-refused}
 use Rattle.published.specs.Behaviours.{next-is-accepted}
 use Rattle.published.specs.Equality.{same-model-refl}
 use Rattle.published.specs.OneToOne.{one-to-one}
@@ -87,9 +90,12 @@ use Rattle.verdicts.specs.RenameRun.{renameRun, RenamesRun, renameVerdict}
 use Rattle.verdicts.specs.RunRenamed.{run-renamed}
 use Rattle.verdicts.specs.RunBehaviour.{nextRunRecord, stateAt, constantsIn, Joins, opening-is, opens-fresh, run-is-behaviour, run-record-joins, refused-not-allowed, reached}
 use Rattle.verdicts.specs.RunProperties.{weak-never, weak-first, strong-never, strong-first, exposed-run-at, exposed-run-by}
-use Rattle.verdicts.specs.VerdictTheorems.{StopsAt, refused-run-record, runNumbers, run-listed, run-meets-rules, accepted-fills, accepted-at, refused-by}
-use Rattle.demands.specs.BrokenRule.{AllNameRule, all-name-rule}
-use Rattle.replay.specs.Interface.{Reply, number, outAfter}
+use Rattle.verdicts.specs.VerdictTheorems.{StopsAt, refused-run-record, runNumbers, run-listed, run-breaks-none, accepted-fills, accepted-at, refused-by}
+use Rattle.demands.specs.BrokenRule.{NamesRule, AllNameRule, all-name-rule}
+use Rattle.demands.specs.FirstBroken.{RuleNumbers, rule-numbers, InterfaceNamesRule, interface-names-rule}
+use Rattle.replay.specs.Interface.{Reply, number, outAfter, replayAct, memberNamedBy}
+use Rattle.flat.specs.Flat.{stateOfFlat}
+use Rattle.replay.specs.InterfaceTheorems.{names-none-beside, names-smallest-beside}
 use Rattle.replay.specs.InterfaceLaws.{refused-leaves}
 
 -- "1. Every state, action, image or run of bytes gets an answer. Broken input is refused by number, the caller need test nothing
@@ -113,6 +119,7 @@ pub record Demand1 : Type 0 where
   pub read-breaks-one : (bs : List ℕ) → readImage bs .refusal ≡ breaksS1 ↔ HeaderBreaks bs
   pub read-breaks-later : (bs : List ℕ) (k : ℕ) → 0 < k → k < length stateNumbers
       → readImage bs .refusal ≡ getD stateNumbers k accepted ↔ (headerRefusal bs ≡ accepted) × ReadBreaks k (bodyOf bs)
+  pub end-above : (bs : List ℕ) → headerWidth ≤ length bs → bodyOf bs ≡ endAbove ↔ EndAboveMet bs
   pub read-meets-the-rules : (bs : List ℕ) → readImage bs .refusal ≡ accepted → rules (readImage bs .state) ≡ true
   pub other-places : (s : State) → rules s ≡ true → (p : List ℕ) → (Renames s p → ⊥) → rename s p ≡ asGiven s notRenaming
   pub short-buffer : (s : State) (buffer : List ℕ) → rules s ≡ true → length buffer < length (image s)
@@ -125,17 +132,26 @@ pub record Demand1 : Type 0 where
   pub broken-number : (s : State) → rules s ≡ false ↔ listed stateNumbers (stateRefusal s) ≡ true
   -- "41 to 47 stand for S1 to S7": every answer gives each exactly where that rule is the first that the state breaks
   pub broken-rule : (s : State) → AllNameRule s
-  -- where 48 or 49 is given, "the action's answer names the smallest ISR member with that fault, 0 in all its other answers"
-  pub member-named-by : (test : MemberTest) (s : State) (action : Action) → act s action .refusal ≡ testNumber test
-      → SmallestMember test s (action .a) (act s action .member)
-  pub no-member-named : (s : State) (action : Action) → (act s action .refusal ≡ memberNotFollowing → ⊥)
-      → (act s action .refusal ≡ memberLacksOffset → ⊥) → act s action .member ≡ 0
+  -- the rules are tests there too; by what they test, each of these numbers is given exactly where its rule is the first that is broken
+  pub numbers-of-rules : (s : State) (n : ℕ) → NamesRule s n → RuleNumbers s n
+  -- and so by the C functions, behind 21 and 23
+  pub interface-broken-rule : (state out : List ℕ) → InterfaceNamesRule state out
+  pub interface-names-none : (state : List ℕ) (kind a b e : ℕ) (out : List ℕ)
+      → (number (replayAct state kind a b e) out ≡ memberNotFollowing → ⊥) → (number (replayAct state kind a b e) out ≡ memberLacksOffset → ⊥)
+      → memberNamedBy state kind a b e ≡ 0
+  pub interface-names-smallest : (state : List ℕ) (kind a b e : ℕ) (out : List ℕ) (test : MemberTest)
+      → number (replayAct state kind a b e) out ≡ testNumber test → SmallestMember test (stateOfFlat state) a (memberNamedBy state kind a b e)
   pub broken-action : (s : State) (action : Action) → rules s ≡ false → act s action ≡ refusedOn s 0 (stateRefusal s)
   pub broken-isr : (property : Property) (s : State) → rules s ≡ false → askIsr property s ≡ isrRefused (stateRefusal s)
   pub broken-offer : (s : State) (kind : ℕ) → rules s ≡ false → offer s kind ≡ offerRefused (stateRefusal s)
   pub broken-writing : (s : State) (buffer : List ℕ) → rules s ≡ false → writeImage s buffer ≡ written (stateRefusal s) 0
   pub broken-renaming : (s : State) (p : List ℕ) → rules s ≡ false → rename s p ≡ asGiven s (stateRefusal s)
   pub broken-representative : (s : State) → rules s ≡ false → represent s ≡ asGiven s (stateRefusal s)
+  -- where 48 or 49 is given, "the action's answer names the smallest ISR member with that fault, 0 in all its other answers"
+  pub names-smallest-member : (test : MemberTest) (s : State) (action : Action) → act s action .refusal ≡ testNumber test
+      → SmallestMember test s (action .a) (act s action .member)
+  pub no-member-named : (s : State) (action : Action) → (act s action .refusal ≡ memberNotFollowing → ⊥)
+      → (act s action .refusal ≡ memberLacksOffset → ⊥) → act s action .member ≡ 0
   -- "a refusal gives back the state it was given"
   pub action-gives-back : (s : State) (action : Action) → (act s action .refusal ≡ accepted → ⊥) → act s action .state ≡ s
   pub renaming-gives-back : (s : State) (p : List ℕ) → (rename s p .refusal ≡ accepted → ⊥) → rename s p .state ≡ s
@@ -170,6 +186,7 @@ demand-1 =
       fresh-out-of-range = fresh-out;
       read-breaks-one = read-breaks-s1;
       read-breaks-later = read-breaks;
+      end-above = end-above-iff;
       read-meets-the-rules = λ bs ok. read-meets-rules bs (readImage bs .state) (ap (λ (n : ℕ). answer n (readImage bs .state)) ok);
       other-places = λ s h p f. sym (rename-unfit s p h (refuted-iff (isRenaming (replicaCount (s .limits)) p) ((λ e. e), (λ e. e)) .0 f));
       short-buffer = λ s buffer h k. let w = writes-short s buffer h k in (sym (w .0), sym (w .1));
@@ -178,7 +195,11 @@ demand-1 =
       state-rules = rules-iff;
       broken-number = broken-listed-iff;
       broken-rule = all-name-rule;
-      member-named-by = λ test s action e. member-named test s action e;
+      numbers-of-rules = rule-numbers;
+      interface-broken-rule = interface-names-rule;
+      interface-names-none = names-none-beside;
+      interface-names-smallest = names-smallest-beside;
+      names-smallest-member = λ test s action e. member-named test s action e;
       no-member-named = member-none;
       broken-action = act-unmet;
       broken-isr = isr-broken;
@@ -195,7 +216,7 @@ demand-1 =
       writing-leaves = λ s buffer h. write-refused s buffer h .1;
       interface-leaves = refused-leaves;
       run-answers = run-listed;
-      run-breaks-none = run-meets-rules;
+      run-breaks-none = run-breaks-none;
       run-reached = reached;
       run-zeros = judge-unopened;
     }
@@ -216,6 +237,20 @@ pub record Demand2 : Type 1 where
   pub steps-are-the-models : (s : State) → rules s ≡ true → (v : ModelState)
       → Next (constantsOf (s .limits)) (meaning s) v
       ↔ (action : Action) × (act s action .refusal ≡ accepted) × Means (s .limits) v (act s action .state)
+  -- kind 7: on a replica that presumes, 48 or 49 is given exactly where the model has no step of LeaderIncHighWatermark for it; and
+  -- which of the two conditions on members fails
+  pub advance-refused-where : (s : State) → rules s ≡ true → (a : ℕ) → a < replicaCount (s .limits)
+      → ((act s (advance a) .refusal ≡ memberNotFollowing) ⊎ (act s (advance a) .refusal ≡ memberLacksOffset))
+      ↔ ReplicaPresumesLeadership (meaning s) a × ¬ ((v : ModelState) × Choice (constantsOf (s .limits)) (advance a) (meaning s) v)
+  pub not-following-where : (s : State) → rules s ≡ true → (a : ℕ) → a < replicaCount (s .limits)
+      → act s (advance a) .refusal ≡ memberNotFollowing
+      ↔ ReplicaPresumesLeadership (meaning s) a
+      × ((follower : ℕ) × follower isIn meaning s .replicaState a .isr × ¬ (ReplicaIsFollowing (meaning s) follower a))
+  pub lacks-offset-where : (s : State) → rules s ≡ true → (a : ℕ) → a < replicaCount (s .limits)
+      → act s (advance a) .refusal ≡ memberLacksOffset
+      ↔ ReplicaPresumesLeadership (meaning s) a
+      × ((follower : ℕ) → follower isIn meaning s .replicaState a .isr → ReplicaIsFollowing (meaning s) follower a)
+      × ((follower : ℕ) × follower isIn meaning s .replicaState a .isr × ¬ (ReplicaLog·HasOffset (meaning s) follower (meaning s .replicaState a .hw)))
   -- a meaning has one state, so this fixes the next state
   pub one-meaning : (s t : State) → rules s ≡ true → rules t ≡ true → s .limits ≡ t .limits → Means (s .limits) (meaning s) t → Same s t
   -- "has one image in bytes": equal states have one, and no others; it is what is written
@@ -288,6 +323,9 @@ demand-2 =
       next-is-the-models = action-is-published;
       next-keeps-rules = act-kept;
       steps-are-the-models = λ s h v. next-is-accepted (s .limits) s h refl (meaning s) (same-model-refl (constantsOf (s .limits)) (meaning s)) v;
+      advance-refused-where = advance-refused;
+      not-following-where = advance-not-following;
+      lacks-offset-where = advance-lacks-offset;
       one-meaning = λ s t h k same m. one-to-one s t h k same .0 m;
       image-is-bytes = image-bytes;
       one-image = image-iff;

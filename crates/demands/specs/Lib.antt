@@ -1,2 +1,3 @@
 pub mod BrokenRule
+pub mod FirstBroken
 pub mod Demands

@@ -10,3 +10,4 @@ pub mod RoundTrip
 pub mod ImageTheorems
 pub mod Longest
 pub mod ImageExample
+pub mod EndAbove

@@ -198,7 +198,7 @@ module _ {A : Type 0} (read : List ℕ → Parsed A) (array : List A) (bs : List
       }
 
   -- a part is refused, and so are all of them
-  fill-stops : (n i : ℕ) (l : List A) (rest : List ℕ) → i < n → fill read i array (drop at bs) ≡ parsed l rest → (refusalOf (read rest) ≡ accepted → ⊥)
+  pub fill-stops : (n i : ℕ) (l : List A) (rest : List ℕ) → i < n → fill read i array (drop at bs) ≡ parsed l rest → (refusalOf (read rest) ≡ accepted → ⊥)
       → refusalOf (fill read n array (drop at bs)) ≡ refusalOf (read rest)
   unfolding fill
   fill-stops zero i l rest h e k = absurd (omega arith)

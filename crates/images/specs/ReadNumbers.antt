@@ -11,7 +11,7 @@ use lib.Dec.{eqb}
 use lib.ListN.{length, getD}
 use borrow.Author.Tests.{eqb-true, eq-eqb, ne-eqb, le-ltb, not-true}
 use Rattle.logic.specs.Tests.{true-false, implied, either, allBelow, all-at}
-use Rattle.logic.specs.Refuse.{refuse-yes, refuse-no, refuse-this, first-yes, first-no, first-other, listed, listed-at, listed-not, FirstFails}
+use Rattle.logic.specs.Refuse.{refuse-yes, refuse-no, refuse-this, first-yes, first-no, first-other, listed, listed-at, listed-not, FailsFirst}
 use Rattle.parts.specs.Refusal.{accepted, wrongMark, tooShort, badConfiguration, leftOver, breaksS1, breaksS2}
 use Rattle.parts.specs.Mark.{byteAt, marked}
 use Rattle.cluster.specs.declared.State.{State}
@@ -59,7 +59,7 @@ header-lacks bs k low l =
 -- nothing is left over, and S(k+1) is the first rule that the state breaks
 pub data ReadBreaks (k : ℕ) (m : Parsed State) : Type 0 where
   byEnd : k ≡ 1 → m ≡ endAbove → ReadBreaks k m
-  byState : (s : State) → m ≡ parsed s [] → FirstFails (ruleTests s) k → ReadBreaks k m
+  byState : (s : State) → m ≡ parsed s [] → FailsFirst (ruleTests s) k → ReadBreaks k m
 
 -- no other rule has the number of S2
 place-of-s2 : (k : ℕ) → k < length stateNumbers → breaksS2 ≡ getD stateNumbers k accepted → k ≡ 1

@@ -38,7 +38,7 @@ use Rattle.cluster.specs.State.{replicaCount, logSize, nextRecordId, replicaAt,
 use Rattle.cluster.specs.Actions.{replicaPresumesLeadership, isTrueLeader, isFollowerCaughtUp, quorumUpdateLeaderAndIsr, leaderShrinkIsrRefusal, leaderShrinkIsr, leaderExpandIsrRefusal, leaderExpandIsr, membersPass, leaderIncHighWatermarkRefusal, leaderIncHighWatermark}
 use Rattle.cluster.specs.Accepted.{leader-shrink-accepted, leader-expand-accepted, advance-accepted, own-hw}
 use Rattle.actions.specs.Sound.{Sound}
-use Rattle.actions.specs.Named.{not-following-iff, lacks-offset-iff}
+use Rattle.actions.specs.MemberNamed.{not-following-iff, lacks-offset-iff}
 use Rattle.published.specs.KafkaReplication.{Constants, _isIn_, Replicas, minus, plus, exceptHw, exceptIsr, LocalState, LeaderAndIsr, ModelState, ReplicaLog·Offsets, ReplicaLog·HasOffset, ReplicaPresumesLeadership, ReplicaIsFollowing, IsFollowerCaughtUp, UnchangedNextRecordId, UnchangedReplicaLog, UnchangedNextLeaderEpoch, UnchangedRequests, QuorumUpdateLeaderAndIsr, LeaderShrinkIsrWith, LeaderExpandIsrWith, LeaderIncHighWatermarkWith}
 use Rattle.published.specs.Meaning.{constantsOf, meaning, Means}
 use Rattle.published.specs.Equality.{same-model-refl}

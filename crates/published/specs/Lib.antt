@@ -16,3 +16,4 @@ pub mod Leading
 pub mod Engine
 pub mod Enabled
 pub mod Behaviours
+pub mod Advance

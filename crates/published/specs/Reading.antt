@@ -40,7 +40,7 @@ use Rattle.cluster.specs.Rules.{rules}
 use Rattle.cluster.specs.Predicates.{Rules}
 use Rattle.cluster.specs.State.{replicaCount, replicaAt}
 use Rattle.cluster.specs.Actions.{replicaPresumesLeadership, replicaIsFollowing, isTrueLeaderTests, isTrueLeader, isFollowerCaughtUp, epochNotAbove, passesTest, memberPasses, membersPass, firstNotPassing}
-use Rattle.actions.specs.Named.{smallest-member}
+use Rattle.actions.specs.MemberNamed.{smallest-member}
 use Rattle.published.specs.KafkaReplication.{Constants, _isIn_, LocalState, ModelState, SameLog, LogRecords, ReplicaLog·HasOffset, ReplicaPresumesLeadership, ReplicaIsFollowing, IsTrueLeader, IsFollowerCaughtUp}
 use Rattle.published.specs.Meaning.{constantsOf, leaderOf, logOf, localStateOf, quorumOf, meaning, Means}
 use Rattle.published.specs.Types.{log-record-ok}

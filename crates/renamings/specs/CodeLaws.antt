@@ -16,7 +16,7 @@
 --   back-old, back-below                      what code reads of the inverse: the old names, below five
 --   leaves-state                              a renaming of no replicas leaves the state
 --   state-by                                  the renamed parts together are the renamed state
---   rename-broken, rename-unfit, rename-fits  what renaming answers: 1, 27, or the state under p
+--   rename-broken, rename-unfit, rename-fits  what renaming answers: 41 to 47, 27, or the state under p
 --   rename-given                              a refused renaming gives back the given state
 --   renameNumbers, rename-listed              the numbers that renaming may give beside 0; it gives no other
 use Prim.Native.Nat.{ℕ, zero, suc, _+_, _*_, _^_, _/_, _%_, _≤_, _<_}
@@ -290,7 +290,7 @@ unfolding rename
 rename-given s p h =
     ap (λ (o : Outcome). o .state) (by-other (λ (o : Outcome). o .refusal) (renameRefusal s p) (asGiven s) (answer accepted (renamed p s)) refl h)
 
--- the numbers that it may give beside 0: "27 (after 1)"
+-- the numbers that it may give beside 0: 41 to 47, then 27
 abbrev pub renameNumbers : List ℕ
 renameNumbers = stateNumbers ++ notRenaming ∷ []
 

@@ -19,7 +19,7 @@ use Rattle.cluster.specs.Actions.{passesTest}
 use Rattle.cluster.specs.Act.{kindOf, uses, actionAnswer, withoutMember, act}
 use Rattle.actions.specs.Kept.{step-kept, step-is-act}
 use Rattle.actions.specs.Answers.{act-same}
-use Rattle.actions.specs.Named.{testNumber, SmallestMember, isr-tidy, passes-tidy, named-kind, named-below, member-named}
+use Rattle.actions.specs.MemberNamed.{testNumber, SmallestMember, isr-tidy, passes-tidy, named-kind, named-below, member-named}
 use Rattle.questions.specs.declared.Property.{Property}
 use Rattle.questions.specs.declared.IsrAnswer.{IsrAnswer}
 use Rattle.questions.specs.Isr.{askIsr}

@@ -14,6 +14,7 @@
 --   numberBytes n, verdictBytes v   a number as four bytes, and a verdict as 250
 --   replayFresh .. replayJudge      the reply of each of the ten functions
 --   memberNamedBy state .. e        the member that replay_act names
+--   numberAndMember r member out    what replay_act returns
 --   numberAndLength reply out       what replay_write_image returns
 use Prim.Native.Nat.{ℕ, _+_, _*_, _/_, _%_}
 use mathlib.Core.Path.{_≡_}

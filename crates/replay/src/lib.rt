@@ -1,7 +1,8 @@
 // The C interface, for C, Rust or anything that calls C: ten functions on bytes. In C a slice is a pointer and then a length. A
 // state is its flat form, 226 bytes. Each function returns a number, 0 for accepted (`replay_act`: and 256 times the member named;
-// `replay_write_image`: and 256 times a length): first 21 or 23 where `state` has not 226 bytes, then the numbers of the library's answer, last 24 where `out` is shorter than the
-// answer. Accepted, the answer stands at the front of `out`; refused, `out` is as it was.
+// `replay_write_image`: and 256 times a length): first 21 or 23 where `state` has not 226 bytes, then the numbers of the library's
+// answer, last 24 where `out` is shorter than the answer. Accepted, the answer stands at the front of `out`; refused, `out` is as
+// it was.
 mod give;
 mod take;
 

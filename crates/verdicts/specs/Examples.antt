@@ -130,8 +130,8 @@ pub record MarkedExamples : Type 0 where
   pub seven : numbers (configuration 1 4 4 3 ∷ elect 0 ∷ shrink 0 ∷ []) ≡ 2 ∷ 0 ∷ 18 ∷ 0 ∷ 0 ∷ 0 ∷ []
   pub seven-leader : verdict (configuration 1 4 4 3 ∷ elect 0 ∷ shrink 0 ∷ []) .state .quorum .leader ≡ None
   pub seven-isr : verdict (configuration 1 4 4 3 ∷ elect 0 ∷ shrink 0 ∷ []) .state .quorum .isr ≡ 1
-  -- 8. "configuration of 6, elect 0, leader 0, then replicate 0 from 0: 19; in its place advance 0", which gives 49
-  -- now
+  -- 8. "configuration of 6, elect 0, leader 0, then replicate 0 from 0: 19; in its place advance 0";
+  -- "examples 1 and 8 now give 49"
   pub eight : numbers (configuration 1 4 4 3 ∷ elect 0 ∷ leader 0 ∷ replicateFrom 0 0 ∷ []) ≡ 2 ∷ 19 ∷ 18 ∷ 0 ∷ 0 ∷ 0 ∷ []
   pub eight-advance : numbers (configuration 1 4 4 3 ∷ elect 0 ∷ leader 0 ∷ advance 0 ∷ []) ≡ 2 ∷ 49 ∷ 18 ∷ 0 ∷ 0 ∷ 0 ∷ []
   -- 9. "R=2, L=4, M=4, X=0, fresh, elect 0 accepted, shrink 0 then 4"

@@ -11,7 +11,7 @@
 --   accepted-opened, accepted-at       a run that is not refused has an accepted configuration, and stops at its end
 --   runRecordNumbers, openingNumbers   the numbers of a run record's length and mark, and those before the first action
 --   runNumbers                         all numbers that refuse a run: 2 to 16, 18 to 22, 25, 48 and 49
---   run-listed, run-meets-rules        no other number refuses a run, and none of a state rule
+--   run-listed, run-breaks-none        no other number refuses a run, and none of a state rule
 --   mostActions                        10,921, the most actions that a run can hold
 --   Small v                            the bounds of the numbers of the verdict v
 --   verdict-small                      Small holds of the verdict of every run
@@ -218,9 +218,9 @@ run-listed run =
     ]
 
 -- nor one of a state rule: every state of a run meets them all
-pub run-meets-rules : (run : List ℕ) → listed stateNumbers (judge run .refusal) ≡ false
+pub run-breaks-none : (run : List ℕ) → listed stateNumbers (judge run .refusal) ≡ false
 unfolding listed every
-run-meets-rules run = listed-apart (accepted ∷ runNumbers) stateNumbers (judge run .refusal) refl (run-listed run)
+run-breaks-none run = listed-apart (accepted ∷ runNumbers) stateNumbers (judge run .refusal) refl (run-listed run)
 
 -- ---- how large the numbers of a verdict are
 -- 65,532 bytes hold a configuration and so many actions

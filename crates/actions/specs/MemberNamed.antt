@@ -5,7 +5,7 @@
 --   not-following-iff               kind 7 gives 48 exactly where a presumes and some member does not follow it
 --   lacks-offset-iff                it gives 49 exactly where a presumes, all members follow it and some member lacks the offset
 --   SmallestMember test s a m       m is in a's ISR and does not pass the test, and no smaller member is so
---   isr-tidy, passes-tidy           both are the same of the tidy form
+--   isr-tidy, passes-tidy           the ISR, and the tests, are the same of the tidy form
 --   named-kind, named-below         48 and 49 are given to kind 7 alone, of a replica below R
 --   member-named                    an answer with 48 or 49 names that member
 --   member-none                     an answer with any other number names 0
@@ -38,7 +38,7 @@ use Rattle.cluster.specs.Unused.{rules-tidy}
 use Rattle.cluster.specs.Actions.{replicaPresumesLeadership, replicaIsFollowing, passesTest, memberPasses, membersPass, firstNotPassing, memberNamed, leaderIncHighWatermarkRefusal}
 use Rattle.cluster.specs.Act.{kindOf, tableRefusal, actionRefusal, refusal, act}
 use Rattle.cluster.specs.ActLaws.{replica-five, first-operand, named-none, named-not-following, named-lacks-offset}
-use Rattle.actions.specs.Answers.{tableNumbers, table-listed, act-number, act-accepted, act-refused}
+use Rattle.actions.specs.Answers.{rowNumbers, table-listed, act-number, act-accepted, act-refused}
 
 -- the number that says that some member of the ISR does not pass a test
 unfoldable pub testNumber : MemberTest → ℕ
@@ -89,12 +89,12 @@ not-named IsFollowing l n h f o = listed-not l n memberNotFollowing h f
 not-named HasOffset l n h f o = listed-not l n memberLacksOffset h o
 
 module _ (test : MemberTest) (s : State) (a b e : ℕ) where
-  row-lacks : (kind : Kind) → listed (accepted ∷ tableNumbers kind) memberNotFollowing ≡ false
-      → listed (accepted ∷ tableNumbers kind) memberLacksOffset ≡ false → tableRefusal kind s a b e ≡ testNumber test → ⊥
-  row-lacks kind = not-named test (accepted ∷ tableNumbers kind) (tableRefusal kind s a b e) (table-listed s kind a b e)
+  row-lacks : (kind : Kind) → listed (accepted ∷ rowNumbers kind) memberNotFollowing ≡ false
+      → listed (accepted ∷ rowNumbers kind) memberLacksOffset ≡ false → tableRefusal kind s a b e ≡ testNumber test → ⊥
+  row-lacks kind = not-named test (accepted ∷ rowNumbers kind) (tableRefusal kind s a b e) (table-listed s kind a b e)
 
   only-kind-seven : (kind : Kind) → tableRefusal kind s a b e ≡ testNumber test → kind ≡ LeaderIncHighWatermark
-  unfolding listed tableNumbers
+  unfolding listed rowNumbers
   only-kind-seven ControllerShrinkIsr h = absurd (row-lacks ControllerShrinkIsr refl refl h)
   only-kind-seven ControllerElectLeader h = absurd (row-lacks ControllerElectLeader refl refl h)
   only-kind-seven BecomeLeader h = absurd (row-lacks BecomeLeader refl refl h)
