@@ -1,15 +1,15 @@
 -- The three demands, in their own order and words. Each is one statement over every state, action, row of bytes and renaming that
 -- it speaks of; below it stands its proof, which cites. The contract of each entry point is an equation with one of these
--- definitions, for every input, or says that it replies what such an answer gives (`Replies`, `numberAndMember` and `numberAndLength`, of the C interface); so what holds
--- of the definitions holds of what the library answers. That the functions end and are safe is part of their proofs. A state,
--- action or buffer is any value of its type, and bytes are any list of numbers; where only numbers below 256 are meant, `Bytes`
--- says so. Assumes nothing.
+-- definitions, for every input, or says that it replies what such an answer gives (`Replies`, `numberAndMember` and
+-- `numberAndLength`, of the C interface); so what holds of the definitions holds of what the library answers. That the functions
+-- end and are safe is part of their proofs. A state, action or buffer is any value of its type, and bytes are any list of numbers;
+-- where only numbers below 256 are meant, `Bytes` says so. Assumes nothing.
 --
 --   Demand1                                       every input gets an answer; what a refusal gives back and leaves
 --     fresh-answers .. representative-answers     every answer has 0 or a number of its list
 --     fresh-in-range .. representative-by-state   which input is refused
 --     state-rules .. broken-representative        what is answered of a state that breaks a rule
---     names-smallest-member, no-member-named      the member that an action's answer names
+--     names-smallest-member .. interface-names-smallest  the member that an action's answer names, and replay_act
 --     action-gives-back .. interface-leaves       what stands beside a refusal: the state as given, zeros, the buffer as it was
 --     run-answers .. run-zeros                    the same of a run
 --   Demand2                                       actions, images and verdicts are those of the model and of the rules
@@ -136,11 +136,6 @@ pub record Demand1 : Type 0 where
   pub numbers-of-rules : (s : State) (n : ℕ) → NamesRule s n → RuleNumbers s n
   -- and so by the C functions, behind 21 and 23
   pub interface-broken-rule : (state out : List ℕ) → InterfaceNamesRule state out
-  pub interface-names-none : (state : List ℕ) (kind a b e : ℕ) (out : List ℕ)
-      → (number (replayAct state kind a b e) out ≡ memberNotFollowing → ⊥) → (number (replayAct state kind a b e) out ≡ memberLacksOffset → ⊥)
-      → memberNamedBy state kind a b e ≡ 0
-  pub interface-names-smallest : (state : List ℕ) (kind a b e : ℕ) (out : List ℕ) (test : MemberTest)
-      → number (replayAct state kind a b e) out ≡ testNumber test → SmallestMember test (stateOfFlat state) a (memberNamedBy state kind a b e)
   pub broken-action : (s : State) (action : Action) → rules s ≡ false → act s action ≡ refusedOn s 0 (stateRefusal s)
   pub broken-isr : (property : Property) (s : State) → rules s ≡ false → askIsr property s ≡ isrRefused (stateRefusal s)
   pub broken-offer : (s : State) (kind : ℕ) → rules s ≡ false → offer s kind ≡ offerRefused (stateRefusal s)
@@ -152,6 +147,12 @@ pub record Demand1 : Type 0 where
       → SmallestMember test s (action .a) (act s action .member)
   pub no-member-named : (s : State) (action : Action) → (act s action .refusal ≡ memberNotFollowing → ⊥)
       → (act s action .refusal ≡ memberLacksOffset → ⊥) → act s action .member ≡ 0
+  -- the same of the C function, where 24 is one of the other numbers
+  pub interface-names-none : (state : List ℕ) (kind a b e : ℕ) (out : List ℕ)
+      → (number (replayAct state kind a b e) out ≡ memberNotFollowing → ⊥) → (number (replayAct state kind a b e) out ≡ memberLacksOffset → ⊥)
+      → memberNamedBy state kind a b e ≡ 0
+  pub interface-names-smallest : (state : List ℕ) (kind a b e : ℕ) (out : List ℕ) (test : MemberTest)
+      → number (replayAct state kind a b e) out ≡ testNumber test → SmallestMember test (stateOfFlat state) a (memberNamedBy state kind a b e)
   -- "a refusal gives back the state it was given"
   pub action-gives-back : (s : State) (action : Action) → (act s action .refusal ≡ accepted → ⊥) → act s action .state ≡ s
   pub renaming-gives-back : (s : State) (p : List ℕ) → (rename s p .refusal ≡ accepted → ⊥) → rename s p .state ≡ s
@@ -197,16 +198,16 @@ demand-1 =
       broken-rule = all-name-rule;
       numbers-of-rules = rule-numbers;
       interface-broken-rule = interface-names-rule;
-      interface-names-none = names-none-beside;
-      interface-names-smallest = names-smallest-beside;
-      names-smallest-member = λ test s action e. member-named test s action e;
-      no-member-named = member-none;
       broken-action = act-unmet;
       broken-isr = isr-broken;
       broken-offer = offer-broken-is;
       broken-writing = λ s buffer h. sym (writes-broken s buffer h .0);
       broken-renaming = λ s p h. sym (rename-broken s p (broken-refusal s h));
       broken-representative = λ s h. sym (represent-broken s (broken-refusal s h));
+      names-smallest-member = λ test s action e. member-named test s action e;
+      no-member-named = member-none;
+      interface-names-none = names-none-beside;
+      interface-names-smallest = names-smallest-beside;
       action-gives-back = act-given;
       renaming-gives-back = rename-given;
       representative-gives-back = represent-given;
