@@ -20,6 +20,8 @@
 // image's length as it is answered, and BYTES is the whole buffer afterwards; where n is 0 the line ends behind LENGTH, with no
 // space. STATE and BYTES have two hexadecimal digits for each byte, in capitals; all else is decimal. A last question that is not
 // whole is not answered.
+#![tactic(auto)]
+
 mod print;
 
 ghost use Rattle.std.specs.Prelude.{◌≡◌, ◌≤◌, length};

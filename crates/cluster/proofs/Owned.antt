@@ -12,10 +12,9 @@ use denote.Array.{each}
 use denote.Laws.{Is}
 use denote.Struct.Declared.{row}
 use Rattle.logic.specs.Table.{length_mapped}
-use Rattle.replica.specs.contracts.Record as Record
 use Rattle.replica.specs.contracts.Replica as Replica
+use Rattle.replica.specs.declared.Replica.{Replica as ReplicaType}
 use Rattle.replica.specs.Replica.{no_replica}
-use Rattle.cluster.specs.contracts.Request as Request
 use Rattle.cluster.specs.contracts.State as State
 use Rattle.cluster.specs.declared.State.{State as StateType}
 use Rattle.cluster.specs.State.{replica_at}
@@ -35,15 +34,13 @@ pub shaped_of : (s : StateType) (vs : List Val) → Is (row State.the_type) s vs
 shaped_of s vs h = record { requests = requests; replicas = replicas; logs = logs }
   where
     requests : length s.requests ≡ 16
-    requests = length_mapped (Request.the_type).to s.requests 16 h.1.1.1.1.1.1.0.1.0.1
+    requests = h.1.1.1.1.1.1.0.1.0.1
 
     replicas : length s.replicas ≡ 5
-    replicas = length_mapped (Replica.the_type).to s.replicas 5 h.1.1.1.1.1.1.1.0.1.0.1
+    replicas = h.1.1.1.1.1.1.1.0.1.0.1
 
     logs : (i : ℕ) → i < 5 → length (replica_at s i).log ≡ 16
     logs i l =
         let k : i < length s.replicas = (let f = replicas in omega arith) in
-        let e =
-        each_says (Replica.the_field).row.Denot (Replica.the_field).row.own_val (λ x. length x.1.1.1.1.1.0 ≡ 16) (λ x vs h. h.1.1.1.1.1.1.1.0.1.0.1)
-        (map (Replica.the_type).to s.replicas) _ h.1.1.1.1.1.1.1.0.1.1 i ((Replica.the_type).to no_replica) (rw length-map k) in
-        length_mapped (Record.the_type).to (replica_at s i).log 16 (rw (get_or-map (Replica.the_type).to s.replicas i no_replica) at e)
+        each_says ReplicaType (row Replica.the_type).own_val (λ p. length p.log ≡ 16) (λ p vs w. w.1.1.1.1.1.1.1.0.1.0.1)
+        s.replicas _ h.1.1.1.1.1.1.1.0.1.1 i no_replica k

@@ -1,4 +1,6 @@
 // The state of one partition: its limits, its quorum, its requests and its replicas, and the nine actions on it.
+#![tactic(auto)]
+
 mod act;
 mod controller;
 mod fields;
@@ -23,7 +25,7 @@ use parts::refusal::{
 use replica::Replica;
 
 // A configuration: R replicas, logs of L records, M record ids, leader epochs 0 to X.
-#[derive(Drop)]
+#[derive(Clone, Copy)]
 pub struct Limits {
     pub replica_count: u8,
     pub log_size: u8,
@@ -32,7 +34,7 @@ pub struct Limits {
 }
 
 // The quorum: the last leader epoch (-1 for none), the leader or none, and the ISR.
-#[derive(Drop)]
+#[derive(Clone, Copy)]
 pub struct Quorum {
     pub epoch: i8,
     pub leader: Leader,
@@ -40,7 +42,7 @@ pub struct Quorum {
 }
 
 // The LeaderAndIsr request of one epoch; its place among the requests is the epoch.
-#[derive(Drop)]
+#[derive(Clone, Copy)]
 pub struct Request {
     pub leader: Leader,
     pub isr: u8,
@@ -48,7 +50,7 @@ pub struct Request {
 
 // A state. Requests from the next leader epoch on, replicas from the count on, and records past a log's end are unused
 // room and no part of it.
-#[derive(Drop)]
+#[derive(Clone, Copy)]
 pub struct State {
     pub limits: Limits,
     pub next_leader_epoch: u8,
@@ -59,7 +61,7 @@ pub struct State {
 }
 
 // An action: its kind, 0 to 8, and its operands, two replicas and an epoch. Every four bytes are one.
-#[derive(Drop)]
+#[derive(Clone, Copy)]
 pub struct Action {
     pub kind: u8,
     pub a: u8,
@@ -71,7 +73,7 @@ pub struct Action {
 pub const LAST_KIND: u8 = 8;
 
 // The kind of an action, by the source's names (kind 3 has a shorter one), and one for every other number.
-#[derive(Drop)]
+#[derive(Clone, Copy)]
 pub enum Kind {
     ControllerShrinkIsr,
     ControllerElectLeader,
@@ -86,7 +88,7 @@ pub enum Kind {
 }
 
 // Which of its operands a, b and e an action uses.
-#[derive(Drop)]
+#[derive(Clone, Copy)]
 pub struct Uses {
     pub a: bool,
     pub b: bool,
@@ -94,7 +96,7 @@ pub struct Uses {
 }
 
 // The bounds of an action's operands: each is below its own.
-#[derive(Drop)]
+#[derive(Clone, Copy)]
 pub struct Bounds {
     pub a: u8,
     pub b: u8,
@@ -103,7 +105,7 @@ pub struct Bounds {
 
 // What raising a leader's high watermark asks of every member of its ISR: that the member's leader is that one, and that the member
 // has the offset of that leader's high watermark.
-#[derive(Drop)]
+#[derive(Clone, Copy)]
 pub enum MemberTest {
     IsFollowing,
     HasOffset,
@@ -111,7 +113,7 @@ pub enum MemberTest {
 
 // What an action answers: a number, 0 for accepted; beside 48 and 49 the smallest member of the ISR with that fault, else 0; and
 // the next state, or the state as given where it is refused.
-#[derive(Drop)]
+#[derive(Clone, Copy)]
 pub struct ActionAnswer {
     pub refusal: u8,
     pub member: u8,
@@ -120,7 +122,7 @@ pub struct ActionAnswer {
 
 // What a fresh state, a reading, a renaming and a representative answer: a number, 0 for accepted, and the state that goes
 // with it.
-#[derive(Drop)]
+#[derive(Clone, Copy)]
 pub struct Outcome {
     pub refusal: u8,
     pub state: State,

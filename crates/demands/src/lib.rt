@@ -1,1 +1,2 @@
 // The three demands as three statements, proved by citing the theorems of other crates; no code.
+#![tactic(auto)]

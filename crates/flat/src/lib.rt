@@ -1,4 +1,6 @@
 // The flat form of a state: 226 bytes, in which a state crosses the C interface.
+#![tactic(auto)]
+
 pub mod read;
 pub mod write;
 

@@ -1,4 +1,6 @@
 // The image of a state: written into a lent buffer, and read back.
+#![tactic(auto)]
+
 pub mod read;
 pub mod write;
 
@@ -34,7 +36,7 @@ const QUORUM_ISR_PLACE: usize = 9;
 pub const LONGEST: usize = 227;
 
 // What writing answers: a number, 0 for accepted, and the image's length, which is 0 beside a refusal.
-#[derive(Drop)]
+#[derive(Clone, Copy)]
 pub struct Written {
     pub refusal: u8,
     pub length: usize,

@@ -1,7 +1,7 @@
 -- Equality of states of the model is an equivalence. Assumes nothing.
 use Rattle.std.specs.Prelude.{refl}
 use Rattle.std.proofs.Common.{sym, ◌∙◌}
-use Rattle.std.proofs.Math.Logic.{Iff·rfl, Iff·symm, Iff·trans}
+use Rattle.std.proofs.Math.Logic.Iff
 use Rattle.published.specs.KafkaReplication.{Constants, Log, ModelState, SameLog, SameModelState}
 
 same_log_refl : (x : Log) → SameLog x x
@@ -22,7 +22,7 @@ module _ (k : Constants) where
         replicaState = λ r l. refl;
         nextRecordId = refl;
         nextLeaderEpoch = refl;
-        leaderAndIsrRequests = λ q. Iff·rfl;
+        leaderAndIsrRequests = λ q. Iff.rfl;
         quorumState = refl;
       }
 
@@ -33,7 +33,7 @@ module _ (k : Constants) where
         replicaState = λ r l. sym (m.replicaState r l);
         nextRecordId = sym m.nextRecordId;
         nextLeaderEpoch = sym m.nextLeaderEpoch;
-        leaderAndIsrRequests = λ q. Iff·symm (m.leaderAndIsrRequests q);
+        leaderAndIsrRequests = λ q. Iff.symm (m.leaderAndIsrRequests q);
         quorumState = sym m.quorumState;
       }
 
@@ -44,6 +44,6 @@ module _ (k : Constants) where
         replicaState = λ r l. m.replicaState r l ∙ n.replicaState r l;
         nextRecordId = m.nextRecordId ∙ n.nextRecordId;
         nextLeaderEpoch = m.nextLeaderEpoch ∙ n.nextLeaderEpoch;
-        leaderAndIsrRequests = λ q. Iff·trans (m.leaderAndIsrRequests q) (n.leaderAndIsrRequests q);
+        leaderAndIsrRequests = λ q. Iff.trans (m.leaderAndIsrRequests q) (n.leaderAndIsrRequests q);
         quorumState = m.quorumState ∙ n.quorumState;
       }

@@ -20,7 +20,7 @@
 use Rattle.std.specs.Prelude.{ℕ, ◌+◌, ◌<◌, ◌≡◌, refl, Bool, true, false, not, ◌↔◌, ◌⊎◌, eqb}
 use Rattle.std.proofs.Math.Path.{sym, ap}
 use Rattle.std.proofs.Common.{◌∙◌, inl, inr, arith}
-use Rattle.std.proofs.Math.Logic.{Iff·rfl}
+use Rattle.std.proofs.Math.Logic.Iff
 use borrow.Author.Tests.{lt-ltb, ltb-true, eqb-false, ne_eqb, not-true}
 use Rattle.logic.specs.Tests.{refuted_iff, and_left, and_right, and_both}
 use Rattle.parts.specs.Refusal.{accepted, member_not_following, member_lacks_offset}
@@ -146,7 +146,7 @@ module _ (s : State) (d : Sound s.limits s) (u : ModelState) (m : Means s.limits
     caught_iff lb = caught_up_iff s u m met a b l lb (u.replicaState a).hw own.hw (hw_at s u m a l) (d.rules.s5 a l).hw
 
     outside_iff : (¬ (b is_in member own.isr)) ↔ member own.isr b ≡ false
-    outside_iff = refuted_iff (member own.isr b) Iff·rfl
+    outside_iff = refuted_iff (member own.isr b) Iff.rfl
 
     pub leader_expand_iff : b is_in Replicas k × ¬ (b is_in (u.replicaState a).isr) × LeaderExpandIsrWith k u v a b
         ↔ (b < R) × (leader_expand_isr_refusal s a b ≡ accepted) × Means s.limits v (leader_expand_isr s a b)

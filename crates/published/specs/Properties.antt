@@ -3,7 +3,8 @@
 use Rattle.std.specs.Prelude.{ℕ, ◌^◌, ◌<◌, ◌≡◌, refl, Bool, ◌↔◌, ◌⊎◌}
 use Rattle.std.proofs.Common.{sym, ◌∙◌, ap, arith, lt-ltb, ltb-true}
 use Rattle.std.proofs.Math.Bool.{true, false}
-use Rattle.std.proofs.Math.Logic.{inl, inr, Iff·trans}
+use Rattle.std.proofs.Math.Logic.{inl, inr}
+use Rattle.std.proofs.Math.Logic.Iff
 use Rattle.logic.specs.Tests.{refuted_iff}
 use Rattle.parts.specs.declared.Leader.TheVariants.{Some}
 use Rattle.parts.specs.Isr.{member}
@@ -89,9 +90,9 @@ module _ (s : State) (isr : ℕ → ℕ) where
 pub weak_is_published : (s : State) → rules s ≡ true → (weak_isr s).holds ≡ true ↔ WeakIsr (constants_of s.limits) (meaning s)
 unfolding meaning
 weak_is_published s h =
-    Iff·trans (weak-holds s h) (property_iff s (λ r. (replica_at s r).isr) h (λ r l. (((rules_iff s).0 h).s2.replicas r l).within))
+    Iff.trans (weak-holds s h) (property_iff s (λ r. (replica_at s r).isr) h (λ r l. (((rules_iff s).0 h).s2.replicas r l).within))
 
 pub strong_is_published : (s : State) → rules s ≡ true → (strong_isr s).holds ≡ true ↔ StrongIsr (constants_of s.limits) (meaning s)
 unfolding meaning
 strong_is_published s h =
-    Iff·trans (strong-holds s h) (property_iff s (λ r. s.quorum.isr) h (λ r l. ((rules_iff s).0 h).s2.quorum.within))
+    Iff.trans (strong-holds s h) (property_iff s (λ r. s.quorum.isr) h (λ r l. ((rules_iff s).0 h).s2.quorum.within))

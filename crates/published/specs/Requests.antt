@@ -13,7 +13,7 @@ use Rattle.std.specs.Prelude.{ℕ, ◌≤◌, ◌<◌, min, ◌≡◌, true, ◌
 use Rattle.std.proofs.Math.Path.{refl, sym, ap}
 use Rattle.std.proofs.Common.{◌∙◌, subst, inl, inr, arith}
 use Rattle.std.proofs.Math.Option.{Option, none, some, none-ne-some, some-injective}
-use Rattle.std.proofs.Math.Logic.{Iff·rfl}
+use Rattle.std.proofs.Math.Logic.Iff
 use borrow.Author.Tests.{lt-ltb, ltb-true}
 use Rattle.logic.specs.Tests.{refuted_iff}
 use Rattle.logic.specs.Refuse.{refuse_zero, refuse_none}
@@ -279,7 +279,7 @@ module _ (s : State) (d : Sound s.limits s) (u : ModelState) (m : Means s.limits
   hw_offset a leader request l =
       subst
       (λ n. BecomeFollowerAndTruncateToWith k u v leader a (u.replicaState a).hw request ↔ BecomeFollowerAndTruncateToWith k u v leader a n request)
-      (hw_at s u m a l) Iff·rfl
+      (hw_at s u m a l) Iff.rfl
 
   -- BecomeFollowerAndTruncateTo of replica a with the request of epoch e
   pub become_follower_iff : (a e : ℕ)

@@ -4,7 +4,7 @@ use Rattle.std.specs.Prelude.{ℕ, ◌<◌, ◌≡◌, refl, true, ◌↔◌, �
 use Rattle.std.proofs.Common.{sym, ◌∙◌, subst, inl, inr, arith, ltb-true}
 use Rattle.std.proofs.Math.Path.{ap}
 use Rattle.std.proofs.Math.Option.{none, some, none-ne-some}
-use Rattle.std.proofs.Math.Logic.{Iff·symm, Iff·trans}
+use Rattle.std.proofs.Math.Logic.Iff
 use Rattle.parts.specs.declared.Leader.{Leader}
 use Rattle.parts.specs.declared.Leader.TheVariants.{None, Some}
 use Rattle.parts.specs.Refusal.{accepted}
@@ -60,7 +60,7 @@ init_same k u v i j =
       replicaState = λ r m. i.replicaState r m ∙ sym (j.replicaState r m);
       nextRecordId = i.record_seq ∙ sym j.record_seq;
       nextLeaderEpoch = i.leader_epoch_seq ∙ sym j.leader_epoch_seq;
-      leaderAndIsrRequests = λ request. Iff·trans (i.leaderAndIsrRequests request) (Iff·symm (j.leaderAndIsrRequests request));
+      leaderAndIsrRequests = λ request. Iff.trans (i.leaderAndIsrRequests request) (Iff.symm (j.leaderAndIsrRequests request));
       quorumState = i.quorumState ∙ sym j.quorumState;
     }
 

@@ -1,1 +1,2 @@
 // Definitions of the published model, and theorems that the engine is that model; no code.
+#![tactic(auto)]

@@ -17,7 +17,7 @@ use replica::Replica;
 const ALL_FIVE: u8 = 31;
 
 // These leaders, each against the members that are not known to agree with it, from this offset on.
-#[derive(Drop)]
+#[derive(Clone, Copy)]
 pub(crate) struct Doubt {
     pub(crate) leaders: u8,
     pub(crate) agreeing: u8,

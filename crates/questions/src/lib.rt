@@ -1,5 +1,7 @@
 // Three questions about a state: weak ISR, strong ISR, and what action it offers; what it exposes; and what an action leaves in doubt
 // of weak and strong ISR.
+#![tactic(auto)]
+
 pub mod doubt;
 mod isr;
 mod search;
@@ -14,7 +16,7 @@ use cluster::{Kind, LAST_KIND, State};
 use parts::refusal::{ACCEPTED, UNKNOWN_KIND};
 
 // A property of the ISRs of a state.
-#[derive(Drop)]
+#[derive(Clone, Copy)]
 pub enum Property {
     WeakIsr,
     StrongIsr,
@@ -22,7 +24,7 @@ pub enum Property {
 
 // An answer on such a property: a number, 0 for accepted; whether it holds; where it fails, the smallest failing leader,
 // member and offset, which are 0 otherwise. Beside a refusal `holds` is false.
-#[derive(Drop)]
+#[derive(Clone, Copy)]
 pub struct IsrAnswer {
     pub refusal: u8,
     pub holds: bool,
@@ -32,7 +34,7 @@ pub struct IsrAnswer {
 }
 
 // An offer: a number, 0 for accepted, and the operands of an action, which are 0 beside a refusal.
-#[derive(Drop)]
+#[derive(Clone, Copy)]
 pub struct OfferAnswer {
     pub refusal: u8,
     pub a: u8,

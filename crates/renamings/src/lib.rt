@@ -1,4 +1,6 @@
 // Renamings of the replicas: the table of all of them, and a state under one.
+#![tactic(auto)]
+
 pub mod places;
 pub mod rows;
 pub mod state;

@@ -3,6 +3,8 @@
 // `replay_write_image`: and 256 times a length): first 21 or 23 where `state` has not 226 bytes, then the numbers of the library's
 // answer, last 24 where `out` is shorter than the answer. Accepted, the answer stands at the front of `out`; refused, `out` is as
 // it was.
+#![tactic(auto)]
+
 mod give;
 mod take;
 

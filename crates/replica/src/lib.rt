@@ -1,4 +1,6 @@
 // One replica and its log of records.
+#![tactic(auto)]
+
 pub mod bytes;
 
 ghost use Rattle.std.specs.Prelude.{◌≡◌, cond, [], ◌∷◌, ◌≤◌, ◌<◌, ltb};
@@ -12,14 +14,14 @@ ghost use Rattle.replica.specs.Change.{with_hw, with_request, append, truncate_t
 use parts::Leader;
 
 // A record: its id, and the epoch of the leader that wrote it.
-#[derive(Drop)]
+#[derive(Clone, Copy)]
 pub struct Record {
     pub id: u8,
     pub epoch: i8,
 }
 
 // A replica. Its log holds end records; what stands behind them is no part of it.
-#[derive(Drop)]
+#[derive(Clone, Copy)]
 pub struct Replica {
     pub hw: u8,
     pub epoch: i8,

@@ -16,7 +16,7 @@ use renamings::{places, state};
 use replica::{Record, Replica};
 
 // The answer of a comparison: the first is less than the second, equal to it, or greater.
-#[derive(Drop)]
+#[derive(Clone, Copy)]
 pub enum Comparison {
     Less,
     Equal,

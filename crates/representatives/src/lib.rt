@@ -1,4 +1,6 @@
 // The representative of a state: the state under the renaming with the least image.
+#![tactic(auto)]
+
 mod compare;
 
 ghost use Rattle.std.specs.Prelude.{◌≡◌, true, ◌+◌, ◌≤◌};

@@ -1,4 +1,6 @@
 // Judges the run on standard input, and prints its verdict on standard output.
+#![tactic(auto)]
+
 mod input;
 mod print;
 

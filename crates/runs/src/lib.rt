@@ -1,4 +1,6 @@
 // Judges a run: a configuration of six bytes, and then run records of six bytes, each of an action.
+#![tactic(auto)]
+
 mod judging;
 mod run_record;
 
@@ -20,7 +22,7 @@ pub const LONGEST_RUN: usize = 65532;
 
 // What is counted over a run: how many actions were accepted; how many were accepted when weak ISR, and when strong ISR, first
 // failed, or 0; the greatest high watermark of any presuming replica in any state.
-#[derive(Drop)]
+#[derive(Clone, Copy)]
 pub struct Tally {
     pub accepted: usize,
     pub weak: usize,
@@ -31,7 +33,7 @@ pub struct Tally {
 // The verdict of a run: what is counted over it; the refusal, or 0; the byte where the refused run record starts, the length of the
 // run where none is refused, 0 where the run is too long; the last state. Where no configuration was accepted, nothing is counted,
 // and the state is all zeros.
-#[derive(Drop)]
+#[derive(Clone, Copy)]
 pub struct Verdict {
     pub tally: Tally,
     pub refusal: u8,

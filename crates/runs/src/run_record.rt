@@ -44,7 +44,7 @@ pub(crate) fn configure(bytes: &[u8]) -> Outcome
 }
 
 // The run record of an action, as it is read: the number of its mark, 20 or 0, and the action.
-#[derive(Drop)]
+#[derive(Clone, Copy)]
 pub(crate) struct ActionRecord {
     pub(crate) refusal: u8,
     pub(crate) action: Action,

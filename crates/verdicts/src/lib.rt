@@ -1,1 +1,2 @@
 // Theorems on runs and their verdicts, and the marked examples; no code.
+#![tactic(auto)]

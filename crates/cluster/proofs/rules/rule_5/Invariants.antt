@@ -1,0 +1,14 @@
+use Prim.Native.Nat.{◌≤◌, ◌-◌}
+use mathlib.Core.Bool.{true}
+use mathlib.Core.Path.{◌≡◌, sym, ◌∙◌}
+use native.Mathlib.Omega.{arith}
+use Rattle.logic.specs.Tests.{all_below, all_none, all_more, all_done, all_fails}
+use Rattle.cluster.specs.State.{next_leader_epoch_of}
+use Rattle.cluster.specs.Rules.{replica_meets_s5_at, rule5}
+use Rattle.cluster.proofs.rules.rule_5.Given as goal
+
+abbrev pub invariant-loop-i : goal.invariant-loop-i
+invariant-loop-i l = (l.i ≤ l.n) × (all_below l.i (replica_meets_s5_at (next_leader_epoch_of l.s) l.s.requests l.s.replicas) ≡ true)
+
+abbrev pub decreases-loop-i : goal.decreases-loop-i
+decreases-loop-i l = l.n - l.i

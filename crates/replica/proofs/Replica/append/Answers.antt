@@ -1,0 +1,8 @@
+use mathlib.Core.Path.{refl}
+use borrow.Author.Rules.{rules}
+use Rattle.replica.specs.Change.{append}
+use Rattle.replica.proofs.Replica.append.Goals as goal
+
+pub returns : goal.returns
+unfolding append
+returns c = refl

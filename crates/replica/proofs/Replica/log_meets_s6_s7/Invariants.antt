@@ -1,0 +1,19 @@
+use Prim.Native.Nat.{◌≤◌, ◌-◌}
+use mathlib.Core.Bool.{true}
+use mathlib.Core.Path.{◌≡◌, sym, ◌∙◌}
+use native.Mathlib.Omega.{arith}
+use borrow.Author.Rules.{rules}
+use borrow.Author.Tests.{not-true, not-false}
+use Rattle.logic.specs.Tests.{all_below, all_none, all_more, all_done, all_fails}
+use Rattle.logic.specs.Concat.{concat_below}
+use Rattle.logic.specs.Entries.{Passed, passing_start, passing_more, passing_fails, passing_end}
+use Rattle.replica.specs.Log.{record_in_use_at, log_in_use}
+use Rattle.replica.specs.Entries.{entry_at, log_entries}
+use Rattle.replica.specs.EntryLaws.{log_unused, log_unlike, log_met}
+use Rattle.replica.proofs.Replica.log_meets_s6_s7.Given as goal
+
+abbrev pub invariant-loop-x : goal.invariant-loop-x
+invariant-loop-x l = (l.x ≤ l.n) × (all_below l.x (record_in_use_at l.next_id l.next_epoch l.self) ≡ true) × Passed l.initial.seen (concat_below l.x (entry_at l.self)) true l.seen
+
+abbrev pub decreases-loop-x : goal.decreases-loop-x
+decreases-loop-x l = l.n - l.x
