@@ -1,0 +1,16 @@
+use Prim.Native.Nat.{◌≤◌, ◌-◌}
+use mathlib.Core.Path.{◌≡◌, refl}
+use mathlib.Core.List.{List}
+use native.Mathlib.Omega.{arith}
+use lib.ListN.{get_or, set, length-replicate}
+use Rattle.logic.specs.Table.{splice, splice_start, fill_turn, fill_end}
+use Rattle.replica.specs.declared.Replica.{Replica}
+use Rattle.replica.specs.Replica.{no_replica}
+use Rattle.flat.specs.Flat.{replica_of_flat_at}
+use Rattle.flat.proofs.read.replicas_of.Given as goal
+
+abbrev pub invariant-loop-i : goal.invariant-loop-i
+invariant-loop-i l = (l.i ≤ 5) × (l.replicas ≡ splice 5 l.i (replica_of_flat_at l.bytes) (λ j. get_or l.initial.replicas j no_replica))
+
+abbrev pub decreases-loop-i : goal.decreases-loop-i
+decreases-loop-i l = 5 - l.i

@@ -1,0 +1,17 @@
+use Prim.Native.Nat.{◌+◌, ◌*◌, ◌-◌}
+use mathlib.Core.Path.{◌≡◌, ap}
+use native.Mathlib.Omega.{arith}
+use lib.ListN.{drop, replicate}
+use Rattle.parts.specs.Mark.{byte_at}
+use Rattle.replica.specs.declared.Replica.{Replica}
+use Rattle.replica.specs.Replica.{zero_replica}
+use Rattle.images.specs.Read.{read_replica}
+use Rattle.images.specs.Layout.{replica_length, replica_with_log}
+use Rattle.images.specs.ReadLaws.{Filling, filling_start, filling_more, filling_next, filling_whole, ReplicaFits, replica_fits, replica_whole}
+use Rattle.images.proofs.read.replicas_of.Given as goal
+
+abbrev pub invariant-loop-i : goal.invariant-loop-i
+invariant-loop-i l = Filling (read_replica (byte_at l.bytes 3)) (replicate 5 zero_replica) l.bytes l.at l.count l.i l.pos l.replicas
+
+abbrev pub decreases-loop-i : goal.decreases-loop-i
+decreases-loop-i l = l.count - l.i

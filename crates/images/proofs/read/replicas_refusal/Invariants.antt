@@ -1,0 +1,20 @@
+use Prim.Native.Nat.{◌+◌, ◌*◌, ◌-◌}
+use mathlib.Core.Path.{◌≡◌, sym, ◌∙◌}
+use mathlib.Core.List.{List}
+use native.Mathlib.Omega.{arith}
+use lib.ListN.{drop, get_or, set, replicate}
+use Rattle.parts.specs.Bytes.{byte-at}
+use Rattle.parts.specs.Mark.{byte_at}
+use Rattle.replica.specs.declared.Replica.{Replica}
+use Rattle.replica.specs.Replica.{zero_replica}
+use Rattle.images.specs.Read.{read_replica}
+use Rattle.images.specs.Layout.{replica_length, replica_with_log}
+use Rattle.images.specs.ReadLaws.{Filling, filling_start, filling_more, filling_refused, filling_over, filling_all, ReplicaFits, replica_fits, replica_whole}
+use Rattle.images.proofs.read.replicas_refusal.Given as goal
+
+-- the first i replicas are there, whatever they say, and end at pos
+abbrev pub invariant-loop-i : goal.invariant-loop-i
+invariant-loop-i z = (l : List Replica) × Filling (read_replica z.log_size) (replicate 5 zero_replica) z.bytes z.at z.count z.i z.pos l
+
+abbrev pub decreases-loop-i : goal.decreases-loop-i
+decreases-loop-i l = l.count - l.i

@@ -1,0 +1,5 @@
+use borrow.Author.Rules.{rules}
+use Rattle.images.proofs.write.put_header.Goals as goal
+
+pub returns : goal.returns
+returns c = rw c.byte.ensures at c.put_bytes.ensures

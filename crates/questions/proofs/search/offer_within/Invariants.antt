@@ -1,0 +1,15 @@
+use Prim.Native.Nat.{◌-◌, ◌≤◌}
+use mathlib.Core.Option.{none}
+use mathlib.Core.Path.{◌∙◌, ◌≡◌, ap, sym}
+use native.Mathlib.Omega.{arith}
+use Rattle.logic.specs.Search.{first_none, first_below, first_second, first_triple}
+use Rattle.questions.specs.Offer.{epoch_bound, is_accepted, smallest_accepted}
+use Rattle.questions.specs.OfferLaws.{offer_done, offer_found, offer_more}
+use Rattle.questions.specs.declared.OfferAnswer.{OfferAnswer}
+use Rattle.questions.proofs.search.offer_within.Given as goal
+
+abbrev pub invariant-loop-a : goal.invariant-loop-a
+invariant-loop-a l = (l.a ≤ l.bounds.a) × (first_below l.a (first_second l.bounds.b (epoch_bound l.bounds) (is_accepted l.s l.kind)) ≡ none)
+
+abbrev pub decreases-loop-a : goal.decreases-loop-a
+decreases-loop-a l = l.bounds.a - l.a

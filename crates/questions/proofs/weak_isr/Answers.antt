@@ -1,0 +1,5 @@
+use borrow.Author.Rules.{rules}
+use Rattle.questions.proofs.weak_isr.Goals as goal
+
+pub returns : goal.returns
+returns c = c.ask_isr.ensures
