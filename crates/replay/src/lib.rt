@@ -16,8 +16,7 @@ use flat::read::state_of;
 use parts::refusal::ACCEPTED;
 
 // The fresh state of a configuration.
-#[unsafe(no_mangle)]
-pub extern "C" fn replay_fresh(r: u8, l: u8, m: u8, x: u8, out: &mut [u8]) -> u8
+pub fn replay_fresh(r: u8, l: u8, m: u8, x: u8, out: &mut [u8]) -> u8
     ensures { Replies (replay_fresh r l m x) out.old result out.new }
 {
     let limits = Limits {
@@ -32,8 +31,7 @@ pub extern "C" fn replay_fresh(r: u8, l: u8, m: u8, x: u8, out: &mut [u8]) -> u8
 
 // The state after an action. Returns the number and 256 times the member that the answer names, which is 0 beside any other number
 // than 48 and 49.
-#[unsafe(no_mangle)]
-pub extern "C" fn replay_act(state: &[u8], kind: u8, a: u8, b: u8, e: u8, out: &mut [u8]) -> u32
+pub fn replay_act(state: &[u8], kind: u8, a: u8, b: u8, e: u8, out: &mut [u8]) -> u32
     ensures { (result ≡ number_and_member (replay_act state.now kind a b e) (member_named_by state.now kind a b e) out.old) × (out.new ≡ out_after (replay_act state.now kind a b e) out.old) }
 {
     let refusal = take::width_refusal(state);
@@ -52,8 +50,7 @@ pub extern "C" fn replay_act(state: &[u8], kind: u8, a: u8, b: u8, e: u8, out: &
 }
 
 // Whether weak ISR holds, or its smallest failure.
-#[unsafe(no_mangle)]
-pub extern "C" fn replay_weak(state: &[u8], out: &mut [u8]) -> u8
+pub fn replay_weak(state: &[u8], out: &mut [u8]) -> u8
     ensures { Replies (replay_weak state.now) out.old result out.new }
 {
     let refusal = take::width_refusal(state);
@@ -64,8 +61,7 @@ pub extern "C" fn replay_weak(state: &[u8], out: &mut [u8]) -> u8
 }
 
 // Whether strong ISR holds, or its smallest failure.
-#[unsafe(no_mangle)]
-pub extern "C" fn replay_strong(state: &[u8], out: &mut [u8]) -> u8
+pub fn replay_strong(state: &[u8], out: &mut [u8]) -> u8
     ensures { Replies (replay_strong state.now) out.old result out.new }
 {
     let refusal = take::width_refusal(state);
@@ -76,8 +72,7 @@ pub extern "C" fn replay_strong(state: &[u8], out: &mut [u8]) -> u8
 }
 
 // The operands of the smallest accepted action of a kind.
-#[unsafe(no_mangle)]
-pub extern "C" fn replay_offer(state: &[u8], kind: u8, out: &mut [u8]) -> u8
+pub fn replay_offer(state: &[u8], kind: u8, out: &mut [u8]) -> u8
     ensures { Replies (replay_offer state.now kind) out.old result out.new }
 {
     let refusal = take::width_refusal(state);
@@ -88,8 +83,7 @@ pub extern "C" fn replay_offer(state: &[u8], kind: u8, out: &mut [u8]) -> u8
 }
 
 // The image of a state. Returns the number and 256 times the image's length, which is 0 when refused.
-#[unsafe(no_mangle)]
-pub extern "C" fn replay_write_image(state: &[u8], out: &mut [u8]) -> u32
+pub fn replay_write_image(state: &[u8], out: &mut [u8]) -> u32
     ensures { (result ≡ number_and_length (replay_write_image state.now) out.old) × (out.new ≡ out_after (replay_write_image state.now) out.old) }
 {
     let refusal = take::width_refusal(state);
@@ -101,8 +95,7 @@ pub extern "C" fn replay_write_image(state: &[u8], out: &mut [u8]) -> u32
 }
 
 // The state of an image. None is made where the image is refused by its bytes.
-#[unsafe(no_mangle)]
-pub extern "C" fn replay_read_image(bytes: &[u8], out: &mut [u8]) -> u8
+pub fn replay_read_image(bytes: &[u8], out: &mut [u8]) -> u8
     ensures { Replies (replay_read_image bytes.now) out.old result out.new }
 {
     let refusal = images::read::layout_refusal(bytes);
@@ -114,8 +107,7 @@ pub extern "C" fn replay_read_image(bytes: &[u8], out: &mut [u8]) -> u8
 }
 
 // The state under a renaming.
-#[unsafe(no_mangle)]
-pub extern "C" fn replay_rename(state: &[u8], places: &[u8], out: &mut [u8]) -> u8
+pub fn replay_rename(state: &[u8], places: &[u8], out: &mut [u8]) -> u8
     ensures { Replies (replay_rename state.now places.now) out.old result out.new }
 {
     let refusal = take::width_refusal(state);
@@ -127,8 +119,7 @@ pub extern "C" fn replay_rename(state: &[u8], places: &[u8], out: &mut [u8]) -> 
 }
 
 // The representative of a state.
-#[unsafe(no_mangle)]
-pub extern "C" fn replay_representative(state: &[u8], out: &mut [u8]) -> u8
+pub fn replay_representative(state: &[u8], out: &mut [u8]) -> u8
     ensures { Replies (replay_representative state.now) out.old result out.new }
 {
     let refusal = take::width_refusal(state);
@@ -140,8 +131,7 @@ pub extern "C" fn replay_representative(state: &[u8], out: &mut [u8]) -> u8
 }
 
 // The verdict of a run. It refuses only by 24: the refusal of a run is a field of its verdict.
-#[unsafe(no_mangle)]
-pub extern "C" fn replay_judge(run: &[u8], out: &mut [u8]) -> u8
+pub fn replay_judge(run: &[u8], out: &mut [u8]) -> u8
     ensures { Replies (replay_judge run.now) out.old result out.new }
 {
     give::give_verdict(runs::judge(run), &mut out[..])

@@ -1,0 +1,17 @@
+use Prim.Native.Nat.{◌≤◌, ◌-◌}
+use mathlib.Core.Path.{◌≡◌}
+use native.Mathlib.Omega.{arith}
+use Rattle.cluster.specs.State.{next_leader_epoch_of}
+use Rattle.cluster.specs.RuleLaws.{rules_bounded}
+use Rattle.renamings.specs.CodeLaws.{renames_wide}
+use Rattle.representatives.specs.declared.compare.Comparison.TheVariants.{Equal}
+use Rattle.representatives.specs.Comparison.{decision_below, decision_none, decision_found, decision_passed, decision_end}
+use Rattle.representatives.specs.Fields.{compare_requests_at, compare_all_requests}
+use borrow.Author.Rules.{rules}
+use Rattle.representatives.proofs.compare.compare_all_requests.Given as goal
+
+abbrev pub invariant-loop-e : goal.invariant-loop-e
+invariant-loop-e l = (l.e ≤ next_leader_epoch_of l.s) × (decision_below l.e (compare_requests_at l.p l.q l.s.requests) ≡ Equal)
+
+abbrev pub decreases-loop-e : goal.decreases-loop-e
+decreases-loop-e l = next_leader_epoch_of l.s - l.e
