@@ -8,7 +8,7 @@
 --   member_of_state .. member_refused the member that replay_act names: of 226 bytes, and of any other count
 --   five_places                       five places, taken one by one, are the list
 --   rename_five .. rename_uncounted   renaming by five places, and by any other count of them
---   bool_byte                         whether a property holds, as a byte
+--   bool-byte                         whether a property holds, as a byte
 --   ImageReplies s out                writing an image answers what the interface returns and leaves, a number below 256 and a
 --                                     length of at most 227
 --   image_replies                     it does so for every state and every buffer
@@ -161,9 +161,9 @@ module _ (s : State) (places : List ℕ) where
 
 -- ---- weak and strong ISR
 -- whether one holds, as a byte
-pub bool_byte : (b : Bool) → bool_byte b ≡ bit b
-bool_byte true = refl
-bool_byte false = refl
+pub bool-byte : (b : Bool) → bool_byte b ≡ bit b
+bool-byte true = refl
+bool-byte false = refl
 
 -- ---- images
 -- what writing an image answers is what the interface returns and leaves; its number is a byte, and its length fits beside that
