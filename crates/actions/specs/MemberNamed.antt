@@ -9,13 +9,13 @@
 --   named_kind, named_below         48 and 49 are given to kind 7 alone, of a replica below R
 --   member-named                    an answer with 48 or 49 names that member
 --   member_none                     an answer with any other number names 0
-use Rattle.std.specs.Prelude.{ℕ, zero, suc, ◌≤◌, ◌<◌, ◌≡◌, Bool, true, false, ◌||◌, List, ◌∷◌, ◌↔◌}
+use Rattle.std.specs.Prelude.{ℕ, ◌≤◌, ◌<◌, ◌≡◌, true, false, List, ◌∷◌, ◌↔◌}
 use Rattle.std.proofs.Math.Path.{refl, sym}
 use Rattle.std.proofs.Common.{◌∙◌, ap, subst, arith}
 use Rattle.std.proofs.Math.Bool.{not}
 use Rattle.std.proofs.Math.Decide.{ℕ_discrete}
 use borrow.Author.Tests.{not-true, not-false}
-use Rattle.logic.specs.Tests.{all_below, all_cong, implied, true_false, or_no_first, or_no_second, first_fails, fails_smallest, SmallestFailing}
+use Rattle.logic.specs.Tests.{implied, or_no_first, or_no_second, fails_smallest}
 use Rattle.logic.specs.Refuse.{refuse_yes, refuse_no, refuse_other, refuse_this, listed, listed_not, first_other}
 use Rattle.parts.specs.Refusal.{accepted, unknown_kind, bad_operand, not_presuming, member_not_following, member_lacks_offset}
 use Rattle.parts.specs.Isr.{member}
@@ -28,14 +28,14 @@ use Rattle.cluster.specs.declared.Kind.TheVariants.{ControllerShrinkIsr, Control
 use Rattle.cluster.specs.declared.MemberTest.{MemberTest}
 use Rattle.cluster.specs.declared.MemberTest.TheVariants.{IsFollowing, HasOffset}
 use Rattle.cluster.specs.State.{replica_count_of, replica_at, tidy}
-use Rattle.cluster.specs.Rules.{rules, state_refusal, state_numbers}
+use Rattle.cluster.specs.Rules.{state_refusal, state_numbers}
 use Rattle.cluster.specs.RuleLaws.{refusal_met, state_listed}
 use Rattle.cluster.specs.Predicates.{rules_iff}
 use Rattle.cluster.specs.Equality.{tidy-replica, tidy_same}
 use Rattle.cluster.specs.Unused.{rules_tidy}
 use Rattle.cluster.specs.Actions.{replica_presumes_leadership, replica_is_following, passes_test, member_passes, members_pass, first_not_passing, member_named, leader_inc_high_watermark_refusal}
 use Rattle.cluster.specs.Act.{kind_of, table_refusal, action_refusal, refusal, act}
-use Rattle.cluster.specs.ActLaws.{replica_five, first_operand, named_none, named_not_following, named_lacks_offset}
+use Rattle.cluster.specs.ActLaws.{first_operand, named_none, named_not_following, named_lacks_offset}
 use Rattle.actions.specs.Answers.{row_numbers, table_listed, act_number, act_accepted, act_refused}
 
 -- the number that says that some member of the ISR does not pass a test

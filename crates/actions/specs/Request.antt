@@ -10,8 +10,7 @@ use Rattle.parts.specs.declared.Leader.TheVariants.{Some}
 use Rattle.parts.specs.Isr.{member}
 use Rattle.parts.specs.Epoch.{last_epoch}
 use Rattle.replica.specs.declared.Replica.{Replica}
-use Rattle.cluster.specs.Rules.{rules}
-use Rattle.cluster.specs.State.{tidy, replica_count_of, next_leader_epoch_of, next_record_id_of, zero_request, request_at, controller_update_isr}
+use Rattle.cluster.specs.State.{replica_count_of, next_leader_epoch_of, next_record_id_of, zero_request, request_at, controller_update_isr}
 use Rattle.cluster.specs.declared.Limits.{Limits}
 use Rattle.cluster.specs.declared.Request.{Request}
 use Rattle.cluster.specs.declared.State.{State}

@@ -2,16 +2,15 @@
 -- Assumes nothing.
 use Prim.Native.Nat.{ℕ, zero, suc, ◌<◌}
 use mathlib.Core.Path.{◌≡◌}
-use mathlib.Core.List.{List, [], ◌∷◌, map}
+use mathlib.Core.List.{List, [], ◌∷◌}
 use native.Mathlib.Omega.{arith}
-use lib.ListN.{length, get_or, length-map, get_or-map}
+use lib.ListN.{length, get_or}
 use base.Fml.{Fml}
 use mir.Val.{Val}
 use denote.Shadow.{shadow}
 use denote.Array.{each}
 use denote.Laws.{Is}
 use denote.Struct.Declared.{row}
-use Rattle.logic.specs.Table.{length_mapped}
 use Rattle.replica.specs.contracts.Replica as Replica
 use Rattle.replica.specs.declared.Replica.{Replica as ReplicaType}
 use Rattle.replica.specs.Replica.{no_replica}

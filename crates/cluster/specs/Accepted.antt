@@ -22,7 +22,7 @@ use Rattle.std.specs.Prelude.{ℕ, ◌+◌, ◌<◌, ◌≡◌, refl, Bool, true
 use Rattle.std.proofs.Common.{sym, ap, arith}
 use Rattle.std.proofs.Math.Bool.{not}
 use borrow.Author.Tests.{ltb-true, lt-ltb, lt-leb, leb-false, eqb-false, ne_eqb, not-false}
-use Rattle.logic.specs.Tests.{all_below, every_at, all_at, and_right, implied, true_false}
+use Rattle.logic.specs.Tests.{every_at, all_at, implied, true_false}
 use Rattle.logic.specs.Refuse.{refuse_zero, refuse_none}
 use Rattle.parts.specs.declared.Leader.TheVariants.{Some}
 use Rattle.parts.specs.Refusal.{accepted}

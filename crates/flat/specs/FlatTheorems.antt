@@ -23,7 +23,7 @@ use Rattle.parts.specs.Bytes.{Bytes, bytes_drop, front_bytes}
 use Rattle.replica.specs.declared.Record.{Record}
 use Rattle.replica.specs.declared.Replica.{Replica}
 use Rattle.replica.specs.Replica.{replica_of, zero_record, no_replica, record_at, tidy_record, tidy_replica}
-use Rattle.replica.specs.ReplicaBytes.{head_width, log_record_width, record_bytes, record_bytes_at, replica_head_by, record_of}
+use Rattle.replica.specs.ReplicaBytes.{head_width, log_record_width, record_bytes, replica_head_by, record_of}
 use Rattle.cluster.specs.declared.Quorum.{Quorum}
 use Rattle.cluster.specs.declared.Request.{Request}
 use Rattle.cluster.specs.declared.State.{State}

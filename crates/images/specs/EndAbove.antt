@@ -1,13 +1,12 @@
 -- What it is that an end above L is met as an image is read front to back, in the words of the bytes. Assumes nothing.
-use Rattle.std.specs.Prelude.{ℕ, zero, suc, ◌+◌, ◌≤◌, ◌<◌, ◌≡◌, refl, List, [], ◌∷◌, ◌↔◌, length, drop, set, replicate}
+use Rattle.std.specs.Prelude.{ℕ, zero, suc, ◌≤◌, ◌<◌, ◌≡◌, refl, List, [], ◌∷◌, ◌↔◌, length, drop, set, replicate}
 use Rattle.std.proofs.Common.{sym, ◌∙◌, ap, arith}
 use Rattle.std.proofs.Math.Decide.{dec_lt}
-use Rattle.parts.specs.Refusal.{accepted, too_short, left_over, breaks_s2}
+use Rattle.parts.specs.Refusal.{breaks_s2}
 use Rattle.parts.specs.Mark.{byte_at}
 use Rattle.replica.specs.declared.Replica.{Replica}
 use Rattle.replica.specs.Replica.{zero_replica}
 use Rattle.replica.specs.ReplicaBytes.{head_width}
-use Rattle.cluster.specs.declared.State.{State}
 use Rattle.cluster.specs.State.{limits_of, replica_count_of, log_size_of}
 use Rattle.images.specs.Image.{header_width}
 use Rattle.images.specs.Read.{Parsed, missing, end_above, parsed, refusal_of, and_then, fill, read_replica, body_of}

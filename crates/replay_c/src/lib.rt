@@ -3,7 +3,6 @@
 #![tactic(auto)]
 
 ghost use Rattle.std.specs.Prelude.{◌≡◌};
-
 ghost use Rattle.replay.specs.Interface.{Replies, number_and_length, number_and_member, member_named_by, out_after, replay_fresh, replay_act, replay_weak, replay_strong, replay_offer, replay_write_image, replay_read_image, replay_rename, replay_representative, replay_judge};
 
 // The fresh state of a configuration.

@@ -1,6 +1,5 @@
 use mir.Syntax.{w8}
 use mir.Facts.{to_z_pos}
-use borrow.Author.Rules.{rules}
 use Rattle.parts.proofs.epoch_of.Goals as goal
 
 pub returns : goal.returns

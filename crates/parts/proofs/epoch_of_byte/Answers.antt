@@ -4,7 +4,6 @@ use native.Mathlib.Omega.{arith}
 use lib.IntN.{negsuc}
 use mir.Syntax.{w8}
 use mir.Facts.{to_z-of_z, to_z_pos}
-use borrow.Author.Rules.{rules}
 use borrow.Author.Tests.{le-ltb}
 use Rattle.parts.specs.Epoch.{epoch_of_byte}
 use Rattle.parts.specs.ByteLaws.{epoch_of_byte_bits, complement_number}

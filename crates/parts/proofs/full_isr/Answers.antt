@@ -1,4 +1,3 @@
-use borrow.Author.Rules.{rules}
 use Rattle.parts.specs.Isr.{full_isr}
 use Rattle.parts.specs.IsrLaws.{shifted, power_positive}
 use Rattle.parts.proofs.full_isr.Goals as goal

@@ -1,7 +1,6 @@
 use mathlib.Core.Bool.{false}
 use mathlib.Core.Path.{◌≡◌, sym, ◌∙◌}
 use native.Mathlib.Omega.{arith}
-use borrow.Author.Rules.{rules}
 use Rattle.parts.specs.Isr.{member}
 use Rattle.parts.specs.IsrLaws.{shifted, including_present, including_fits, including_absent}
 use Rattle.parts.proofs.including_member.Goals as goal

@@ -1,5 +1,4 @@
 use native.Mathlib.Omega.{arith}
-use borrow.Author.Rules.{rules}
 use Rattle.parts.specs.IsrLaws.{shifted, alone_is}
 use Rattle.parts.proofs.is_alone.Goals as goal
 

@@ -1,6 +1,5 @@
 use mathlib.Core.Path.{sym}
 use native.Mathlib.Omega.{arith}
-use borrow.Author.Rules.{rules}
 use Rattle.parts.specs.IsrLaws.{member_past, member_low}
 use Rattle.parts.proofs.is_member.Goals as goal
 

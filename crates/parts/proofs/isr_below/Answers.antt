@@ -1,4 +1,3 @@
-use borrow.Author.Rules.{rules}
 use Rattle.parts.specs.Isr.{isr_below}
 use Rattle.parts.specs.IsrLaws.{shifted}
 use Rattle.parts.proofs.isr_below.Goals as goal

@@ -1,4 +1,3 @@
-use borrow.Author.Rules.{rules}
 use Rattle.parts.specs.EpochLaws.{last_zero, last_suc}
 use Rattle.parts.proofs.last_epoch.Goals as goal
 

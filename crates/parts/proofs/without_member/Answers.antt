@@ -1,7 +1,6 @@
 use mathlib.Core.Path.{◌≡◌, sym, ◌∙◌}
 use mathlib.Core.Bool.{true}
 use native.Mathlib.Omega.{arith}
-use borrow.Author.Rules.{rules}
 use Rattle.parts.specs.Isr.{member}
 use Rattle.parts.specs.IsrLaws.{shifted, member_below, without_fits, without_present, without_absent}
 use Rattle.parts.proofs.without_member.Goals as goal

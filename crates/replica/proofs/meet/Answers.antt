@@ -1,4 +1,3 @@
-use borrow.Author.Rules.{rules}
 use Rattle.logic.specs.Entries.{entry, passed_new, passed_known}
 use Rattle.replica.proofs.meet.Goals as goal
 

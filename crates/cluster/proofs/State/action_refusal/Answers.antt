@@ -1,7 +1,7 @@
 use mathlib.Core.Path.{◌∙◌, ap, sym}
 use mathlib.Core.Bool.{not}
 use native.Mathlib.Omega.{arith}
-use borrow.Author.Tests.{le-ltb, lt-ltb, not-false}
+use borrow.Author.Tests.{le-ltb, lt-ltb}
 use Rattle.logic.specs.Refuse.{refuse_no, refuse_yes}
 use Rattle.cluster.specs.Act.{action_refusal}
 use Rattle.cluster.specs.ActLaws.{epochs_small}

@@ -1,8 +1,6 @@
-use Prim.Native.Nat.{◌-◌, ◌≤◌}
-use mathlib.Core.Path.{◌∙◌, ◌≡◌, sym}
-use mathlib.Core.Bool.{true}
+use mathlib.Core.Path.{◌∙◌, sym}
 use native.Mathlib.Omega.{arith}
-use Rattle.logic.specs.Tests.{all_done, all_more, all_none, all_below, fails_first, fails_nowhere}
+use Rattle.logic.specs.Tests.{all_done, all_more, all_none, fails_first, fails_nowhere}
 use Rattle.cluster.specs.Actions.{member_passes}
 use Rattle.cluster.specs.ActLaws.{replica_five}
 use Rattle.cluster.proofs.State.first_not_passing.Goals as goal

@@ -1,10 +1,8 @@
 use Prim.Native.Nat.{◌-◌, ◌≤◌}
-use mathlib.Core.Path.{◌∙◌, ◌≡◌, sym}
+use mathlib.Core.Path.{◌≡◌}
 use mathlib.Core.Bool.{true}
-use native.Mathlib.Omega.{arith}
-use Rattle.logic.specs.Tests.{all_done, all_more, all_none, all_below, fails_first, fails_nowhere}
+use Rattle.logic.specs.Tests.{all_below}
 use Rattle.cluster.specs.Actions.{member_passes}
-use Rattle.cluster.specs.ActLaws.{replica_five}
 use Rattle.cluster.proofs.State.first_not_passing.Given as goal
 
 abbrev pub invariant-loop-m : goal.invariant-loop-m

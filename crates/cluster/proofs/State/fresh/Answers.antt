@@ -4,7 +4,6 @@ use mathlib.Core.Path.{◌≡◌, sym, ◌∙◌, ap}
 use native.Mathlib.Omega.{arith}
 use lib.Dec.{ltb}
 use lib.ListN.{replicate, get_or-replicate}
-use borrow.Author.Tests.{not-true, not-false}
 use Rattle.logic.specs.Table.{table, table_cong}
 use Rattle.parts.specs.declared.Leader.TheVariants.{None}
 use Rattle.parts.specs.Refusal.{accepted, bad_configuration}

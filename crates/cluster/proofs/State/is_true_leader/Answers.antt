@@ -1,7 +1,6 @@
 use mathlib.Core.Path.{◌∙◌, ◌≡◌, ap, ap₂, sym}
 use mir.Val.{of_z, to_z}
 use mir.Syntax.{w8}
-use borrow.Author.Tests.{not-false, not-true}
 use borrow.Author.Rules.{rules}
 use Rattle.logic.specs.Tests.{every_last, every_no, every_yes}
 use Rattle.parts.specs.Epoch.{same_epoch}

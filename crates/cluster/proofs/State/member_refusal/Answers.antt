@@ -1,13 +1,13 @@
 use mathlib.Core.Path.{◌≡◌, ◌∙◌, ap, ap₂, sym}
 use mathlib.Core.Bool.{true, not}
 use lib.Dec.{ltb}
-use borrow.Author.Tests.{not-false, not-true, le-ltb, lt-ltb}
+use borrow.Author.Tests.{le-ltb, lt-ltb}
 use native.Mathlib.Omega.{arith}
 use Rattle.logic.specs.Refuse.{refuse_no, refuse_yes}
 use Rattle.parts.specs.Isr.{member}
 use Rattle.parts.specs.Leader.{names}
 use Rattle.replica.specs.declared.Replica.{Replica}
-use Rattle.cluster.specs.declared.MemberTest.TheVariants.{IsFollowing, HasOffset}
+use Rattle.cluster.specs.declared.MemberTest.TheVariants.{IsFollowing}
 use Rattle.cluster.specs.Actions.{passes_test, replica_is_following}
 use Rattle.cluster.specs.ActLaws.{refusal_inside, refusal_outside}
 use Rattle.cluster.specs.State.{replica_at}

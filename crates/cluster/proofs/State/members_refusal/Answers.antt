@@ -1,6 +1,6 @@
-use Prim.Native.Nat.{ℕ, ◌-◌, ◌≤◌, max}
-use mathlib.Core.Path.{◌∙◌, ◌≡◌, ap, ap₂, sym}
-use mathlib.Core.Bool.{Bool, true, not}
+use Prim.Native.Nat.{ℕ, max}
+use mathlib.Core.Path.{◌∙◌, ap, ap₂, sym}
+use mathlib.Core.Bool.{Bool, not}
 use native.Mathlib.Omega.{arith}
 use Rattle.logic.specs.Refuse.{refuse_no, refuse_yes}
 use Rattle.logic.specs.Tests.{all_done, all_fails, all_more, all_next, all_none, all_below}

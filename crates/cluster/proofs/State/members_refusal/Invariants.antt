@@ -1,12 +1,10 @@
-use Prim.Native.Nat.{ℕ, ◌-◌, ◌≤◌, max}
-use mathlib.Core.Path.{◌∙◌, ◌≡◌, ap, ap₂, sym}
-use mathlib.Core.Bool.{Bool, true, not}
-use native.Mathlib.Omega.{arith}
-use Rattle.logic.specs.Refuse.{refuse_no, refuse_yes}
-use Rattle.logic.specs.Tests.{all_done, all_fails, all_more, all_next, all_none, all_below}
+use Prim.Native.Nat.{◌-◌, ◌≤◌}
+use mathlib.Core.Path.{◌≡◌}
+use mathlib.Core.Bool.{true}
+use Rattle.logic.specs.Tests.{all_below}
 use Rattle.cluster.specs.declared.MemberTest.TheVariants.{IsFollowing, HasOffset}
 use Rattle.cluster.specs.Actions.{member_passes}
-use Rattle.cluster.specs.ActLaws.{replica_five, offset_refusal, offset_more, offset_none, member_following, member-not-following}
+use Rattle.cluster.specs.ActLaws.{offset_refusal}
 use Rattle.cluster.proofs.State.members_refusal.Given as goal
 
 abbrev pub invariant-loop-m : goal.invariant-loop-m

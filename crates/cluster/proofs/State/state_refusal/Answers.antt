@@ -1,7 +1,6 @@
 use mathlib.Core.Bool.{true}
 use mathlib.Core.Path.{◌≡◌, sym, ◌∙◌}
 use lib.ListN.{drop}
-use borrow.Author.Tests.{not-true, not-false}
 use Rattle.parts.specs.Refusal.{breaks_s1, breaks_s2, breaks_s3, breaks_s4, breaks_s5, breaks_s6}
 use Rattle.logic.specs.Refuse.{refuse_unless, unless_here, unless_later}
 use Rattle.cluster.specs.RuleLaws.{bounded_of, logs_bounded_of, met_refusal, only_seventh}

@@ -1,4 +1,3 @@
-use borrow.Author.Rules.{rules}
 use Rattle.cluster.proofs.leader.changed_isr.Goals as goal
 
 pub returns-then-joins : goal.returns-then-joins

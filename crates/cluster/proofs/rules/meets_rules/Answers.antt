@@ -1,7 +1,6 @@
 use mathlib.Core.Bool.{true}
 use mathlib.Core.Path.{◌≡◌, sym, ◌∙◌}
 use lib.ListN.{drop}
-use borrow.Author.Tests.{not-true, not-false}
 use Rattle.logic.specs.Tests.{every, every_no, every_yes}
 use Rattle.cluster.specs.State.{next_leader_epoch_of, next_record_id_of}
 use Rattle.cluster.specs.Rules.{rule1, rules, Bounded}

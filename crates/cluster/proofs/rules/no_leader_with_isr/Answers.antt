@@ -1,5 +1,4 @@
 use mathlib.Core.Path.{sym, ◌∙◌}
-use borrow.Author.Rules.{rules}
 use Rattle.cluster.proofs.rules.no_leader_with_isr.Goals as goal
 
 pub returns-then-same : goal.returns-then-same

@@ -1,5 +1,4 @@
 use mathlib.Core.Path.{sym, ◌∙◌}
-use borrow.Author.Rules.{rules}
 use Rattle.cluster.proofs.rules.own_leader_in_isr.Goals as goal
 
 pub returns-then-names : goal.returns-then-names

@@ -1,6 +1,4 @@
 use mathlib.Core.Path.{sym, ◌∙◌}
-use borrow.Author.Tests.{not-true, not-false}
-use borrow.Author.Rules.{rules}
 use Rattle.cluster.proofs.rules.quorum_and_requests_in_range.Goals as goal
 
 pub returns-then-not-leader_and_isr_in_range : goal.returns-then-not-leader_and_isr_in_range

@@ -1,7 +1,6 @@
 use mathlib.Core.Path.{◌≡◌, sym, ◌∙◌, ap}
 use mir.Val.{to_z, of_z}
 use mir.Syntax.{w8}
-use borrow.Author.Tests.{not-true, not-false}
 use borrow.Author.Rules.{rules}
 use Rattle.logic.specs.Tests.{every_no, every_yes, every_last}
 use Rattle.cluster.specs.Rules.{replica_meets_s5, replica_matches_request}

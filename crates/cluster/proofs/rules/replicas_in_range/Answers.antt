@@ -1,8 +1,6 @@
-use Prim.Native.Nat.{◌≤◌, ◌-◌}
-use mathlib.Core.Bool.{true}
-use mathlib.Core.Path.{◌≡◌, sym, ◌∙◌}
+use mathlib.Core.Path.{sym, ◌∙◌}
 use native.Mathlib.Omega.{arith}
-use Rattle.logic.specs.Tests.{all_below, all_none, all_more, all_done, all_fails}
+use Rattle.logic.specs.Tests.{all_none, all_more, all_done, all_fails}
 use Rattle.cluster.specs.Rules.{replica_in_range_at}
 use Rattle.cluster.proofs.rules.replicas_in_range.Goals as goal
 

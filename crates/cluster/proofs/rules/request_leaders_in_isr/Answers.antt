@@ -1,8 +1,6 @@
-use Prim.Native.Nat.{◌≤◌, ◌-◌}
-use mathlib.Core.Bool.{true}
-use mathlib.Core.Path.{◌≡◌, sym, ◌∙◌}
+use mathlib.Core.Path.{sym, ◌∙◌}
 use native.Mathlib.Omega.{arith}
-use Rattle.logic.specs.Tests.{all_below, all_none, all_more, all_done, all_fails}
+use Rattle.logic.specs.Tests.{all_none, all_more, all_done, all_fails}
 use Rattle.cluster.specs.Rules.{request_leader_in_isr}
 use Rattle.cluster.proofs.rules.request_leaders_in_isr.Goals as goal
 

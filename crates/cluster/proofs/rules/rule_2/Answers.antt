@@ -1,5 +1,4 @@
 use mathlib.Core.Path.{sym, ◌∙◌}
-use borrow.Author.Tests.{not-true, not-false}
 use Rattle.logic.specs.Tests.{every_no, every_yes, every_last, every_pair}
 use Rattle.cluster.specs.Rules.{rule2}
 use Rattle.cluster.proofs.rules.rule_2.Goals as goal

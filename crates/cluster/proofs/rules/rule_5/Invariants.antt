@@ -1,10 +1,9 @@
 use Prim.Native.Nat.{◌≤◌, ◌-◌}
 use mathlib.Core.Bool.{true}
-use mathlib.Core.Path.{◌≡◌, sym, ◌∙◌}
-use native.Mathlib.Omega.{arith}
-use Rattle.logic.specs.Tests.{all_below, all_none, all_more, all_done, all_fails}
+use mathlib.Core.Path.{◌≡◌}
+use Rattle.logic.specs.Tests.{all_below}
 use Rattle.cluster.specs.State.{next_leader_epoch_of}
-use Rattle.cluster.specs.Rules.{replica_meets_s5_at, rule5}
+use Rattle.cluster.specs.Rules.{replica_meets_s5_at}
 use Rattle.cluster.proofs.rules.rule_5.Given as goal
 
 abbrev pub invariant-loop-i : goal.invariant-loop-i

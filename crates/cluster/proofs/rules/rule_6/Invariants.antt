@@ -1,10 +1,9 @@
 use Prim.Native.Nat.{◌≤◌, ◌-◌}
 use mathlib.Core.Bool.{true}
-use mathlib.Core.Path.{◌≡◌, sym, ◌∙◌}
-use native.Mathlib.Omega.{arith}
-use Rattle.logic.specs.Tests.{all_below, all_none, all_more, all_done, all_fails}
+use mathlib.Core.Path.{◌≡◌}
+use Rattle.logic.specs.Tests.{all_below}
 use Rattle.cluster.specs.State.{next_leader_epoch_of, next_record_id_of}
-use Rattle.cluster.specs.Rules.{log_in_use_at, rule6}
+use Rattle.cluster.specs.Rules.{log_in_use_at}
 use Rattle.cluster.proofs.rules.rule_6.Given as goal
 
 abbrev pub invariant-loop-i : goal.invariant-loop-i

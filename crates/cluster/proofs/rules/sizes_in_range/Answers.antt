@@ -1,6 +1,6 @@
 use mathlib.Core.Path.{sym, ◌∙◌}
 use native.Mathlib.Omega.{arith}
-use borrow.Author.Tests.{le-leb, lt-leb, not-true, not-false}
+use borrow.Author.Tests.{le-leb, lt-leb}
 use Rattle.logic.specs.Tests.{every_no, every_yes, every_last}
 use Rattle.cluster.specs.RuleLaws.{ranges_of}
 use Rattle.cluster.specs.Rules.{rule1}

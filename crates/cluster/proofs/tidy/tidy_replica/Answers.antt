@@ -1,6 +1,5 @@
 use native.Mathlib.Omega.{arith}
 use borrow.Author.Tests.{lt-ltb, le-ltb}
-use borrow.Author.Rules.{rules}
 use Rattle.cluster.proofs.tidy.tidy_replica.Goals as goal
 
 pub returns-then-i-count : goal.returns-then-i-count

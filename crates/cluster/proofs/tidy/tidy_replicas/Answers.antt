@@ -1,8 +1,7 @@
-use Prim.Native.Nat.{◌≤◌, ◌-◌}
-use mathlib.Core.Path.{◌≡◌, refl, ap}
+use mathlib.Core.Path.{refl, ap}
 use native.Mathlib.Omega.{arith}
 use lib.ListN.{set}
-use Rattle.logic.specs.Table.{splice, splice_start, fill_turn, fill_end}
+use Rattle.logic.specs.Table.{splice_start, fill_turn, fill_end}
 use Rattle.replica.specs.Replica.{no_replica}
 use Rattle.replica.specs.declared.Replica.{Replica}
 use Rattle.cluster.specs.State.{replica_at, with_replicas, tidy_replica_at}

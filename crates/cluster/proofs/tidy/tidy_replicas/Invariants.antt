@@ -1,13 +1,7 @@
 use Prim.Native.Nat.{◌≤◌, ◌-◌}
-use mathlib.Core.Path.{◌≡◌, refl, ap}
-use native.Mathlib.Omega.{arith}
-use lib.ListN.{set}
-use Rattle.logic.specs.Table.{splice, splice_start, fill_turn, fill_end}
-use Rattle.replica.specs.Replica.{no_replica}
-use Rattle.replica.specs.declared.Replica.{Replica}
+use mathlib.Core.Path.{◌≡◌}
+use Rattle.logic.specs.Table.{splice}
 use Rattle.cluster.specs.State.{replica_at, with_replicas, tidy_replica_at}
-use Rattle.cluster.specs.declared.State.{State}
-use Rattle.cluster.proofs.Owned.{shaped_of}
 use Rattle.cluster.proofs.tidy.tidy_replicas.Given as goal
 
 abbrev pub invariant-loop-i : goal.invariant-loop-i

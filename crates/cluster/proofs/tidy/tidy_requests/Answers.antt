@@ -1,8 +1,7 @@
-use Prim.Native.Nat.{◌≤◌, ◌-◌}
-use mathlib.Core.Path.{◌≡◌, refl, ap}
+use mathlib.Core.Path.{refl, ap}
 use native.Mathlib.Omega.{arith}
 use lib.ListN.{set}
-use Rattle.logic.specs.Table.{splice, splice_start, fill_turn, fill_end}
+use Rattle.logic.specs.Table.{splice_start, fill_turn, fill_end}
 use Rattle.cluster.specs.State.{zero_request, request_at, with_requests, tidy_request_at}
 use Rattle.cluster.specs.declared.State.{State}
 use Rattle.cluster.specs.declared.Request.{Request}

@@ -1,12 +1,7 @@
 use Prim.Native.Nat.{◌≤◌, ◌-◌}
-use mathlib.Core.Path.{◌≡◌, refl, ap}
-use native.Mathlib.Omega.{arith}
-use lib.ListN.{set}
-use Rattle.logic.specs.Table.{splice, splice_start, fill_turn, fill_end}
-use Rattle.cluster.specs.State.{zero_request, request_at, with_requests, tidy_request_at}
-use Rattle.cluster.specs.declared.State.{State}
-use Rattle.cluster.specs.declared.Request.{Request}
-use Rattle.cluster.proofs.Owned.{shaped_of}
+use mathlib.Core.Path.{◌≡◌}
+use Rattle.logic.specs.Table.{splice}
+use Rattle.cluster.specs.State.{request_at, with_requests, tidy_request_at}
 use Rattle.cluster.proofs.tidy.tidy_requests.Given as goal
 
 abbrev pub invariant-loop-e : goal.invariant-loop-e

@@ -1,4 +1,3 @@
-use Prim.Native.Nat.{◌-◌}
 use Rattle.flat.specs.Flat.{leader_of_flat}
 use Rattle.flat.specs.FlatLaws.{leader_of_some}
 use Rattle.flat.proofs.read.leader_of.Goals as goal

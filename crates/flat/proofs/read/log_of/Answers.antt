@@ -1,9 +1,8 @@
-use Prim.Native.Nat.{◌≤◌, ◌-◌}
-use mathlib.Core.Path.{◌≡◌, refl, ◌∙◌}
+use mathlib.Core.Path.{refl, ◌∙◌}
 use mathlib.Core.List.{List}
 use native.Mathlib.Omega.{arith}
-use lib.ListN.{drop, get_or, set, length-replicate}
-use Rattle.logic.specs.Table.{splice, splice_start, fill_turn, fill_end}
+use lib.ListN.{drop, set, length-replicate}
+use Rattle.logic.specs.Table.{splice_start, fill_turn, fill_end}
 use Rattle.replica.specs.declared.Record.{Record}
 use Rattle.replica.specs.Replica.{zero_record}
 use Rattle.flat.specs.Flat.{record_of_flat}

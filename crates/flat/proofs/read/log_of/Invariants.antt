@@ -1,13 +1,9 @@
 use Prim.Native.Nat.{◌≤◌, ◌-◌}
-use mathlib.Core.Path.{◌≡◌, refl, ◌∙◌}
-use mathlib.Core.List.{List}
-use native.Mathlib.Omega.{arith}
-use lib.ListN.{drop, get_or, set, length-replicate}
-use Rattle.logic.specs.Table.{splice, splice_start, fill_turn, fill_end}
-use Rattle.replica.specs.declared.Record.{Record}
+use mathlib.Core.Path.{◌≡◌}
+use lib.ListN.{drop, get_or}
+use Rattle.logic.specs.Table.{splice}
 use Rattle.replica.specs.Replica.{zero_record}
 use Rattle.flat.specs.Flat.{record_of_flat}
-use Rattle.flat.specs.FlatLaws.{record-at}
 use Rattle.flat.proofs.read.log_of.Given as goal
 
 abbrev pub invariant-loop-x : goal.invariant-loop-x

@@ -1,10 +1,7 @@
 use Prim.Native.Nat.{◌≤◌, ◌-◌}
-use mathlib.Core.Path.{◌≡◌, refl}
-use mathlib.Core.List.{List}
-use native.Mathlib.Omega.{arith}
-use lib.ListN.{get_or, set, length-replicate}
-use Rattle.logic.specs.Table.{splice, splice_start, fill_turn, fill_end}
-use Rattle.replica.specs.declared.Replica.{Replica}
+use mathlib.Core.Path.{◌≡◌}
+use lib.ListN.{get_or}
+use Rattle.logic.specs.Table.{splice}
 use Rattle.replica.specs.Replica.{no_replica}
 use Rattle.flat.specs.Flat.{replica_of_flat_at}
 use Rattle.flat.proofs.read.replicas_of.Given as goal

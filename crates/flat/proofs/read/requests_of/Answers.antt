@@ -1,9 +1,8 @@
-use Prim.Native.Nat.{◌≤◌, ◌-◌}
-use mathlib.Core.Path.{◌≡◌, refl}
+use mathlib.Core.Path.{refl}
 use mathlib.Core.List.{List}
 use native.Mathlib.Omega.{arith}
-use lib.ListN.{get_or, set, length-replicate}
-use Rattle.logic.specs.Table.{splice, splice_start, fill_turn, fill_end}
+use lib.ListN.{set, length-replicate}
+use Rattle.logic.specs.Table.{splice_start, fill_turn, fill_end}
 use Rattle.cluster.specs.declared.Request.{Request}
 use Rattle.cluster.specs.State.{zero_request}
 use Rattle.flat.specs.Flat.{request_of_flat_at}

@@ -1,10 +1,7 @@
 use Prim.Native.Nat.{◌≤◌, ◌-◌}
-use mathlib.Core.Path.{◌≡◌, refl}
-use mathlib.Core.List.{List}
-use native.Mathlib.Omega.{arith}
-use lib.ListN.{get_or, set, length-replicate}
-use Rattle.logic.specs.Table.{splice, splice_start, fill_turn, fill_end}
-use Rattle.cluster.specs.declared.Request.{Request}
+use mathlib.Core.Path.{◌≡◌}
+use lib.ListN.{get_or}
+use Rattle.logic.specs.Table.{splice}
 use Rattle.cluster.specs.State.{zero_request}
 use Rattle.flat.specs.Flat.{request_of_flat_at}
 use Rattle.flat.proofs.read.requests_of.Given as goal

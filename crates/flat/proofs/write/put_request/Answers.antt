@@ -1,4 +1,3 @@
-use borrow.Author.Rules.{rules}
 use Rattle.flat.proofs.write.put_request.Goals as goal
 
 pub returns : goal.returns

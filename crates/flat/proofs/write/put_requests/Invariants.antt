@@ -1,7 +1,6 @@
 use Prim.Native.Nat.{◌≤◌, ◌-◌}
-use native.Mathlib.Omega.{arith}
 use Rattle.logic.specs.Concat.{concat_below}
-use Rattle.logic.specs.Stores.{Stored, stored_length, storing_start, storing_room, storing_more, storing_end}
+use Rattle.logic.specs.Stores.{Stored}
 use Rattle.flat.specs.Flat.{flat_request_at}
 use Rattle.flat.proofs.write.put_requests.Given as goal
 

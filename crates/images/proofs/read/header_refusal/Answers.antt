@@ -3,7 +3,7 @@ use mathlib.Core.Path.{◌≡◌, sym, ◌∙◌, ap}
 use mathlib.Core.Bool.{not}
 use lib.Dec.{ltb}
 use lib.ListN.{length}
-use borrow.Author.Tests.{lt-ltb, le-ltb, not-true, not-false}
+use borrow.Author.Tests.{lt-ltb, le-ltb}
 use Rattle.logic.specs.Refuse.{refuse, refuse_yes, refuse_no}
 use Rattle.parts.specs.Refusal.{too_short, wrong_mark, bad_configuration, breaks_s1}
 use Rattle.parts.specs.Mark.{byte_at, marked}

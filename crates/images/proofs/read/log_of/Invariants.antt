@@ -1,12 +1,7 @@
-use Prim.Native.Nat.{ℕ, ◌*◌, ◌≤◌, ◌-◌}
-use mathlib.Core.Path.{◌≡◌, refl, sym, ◌∙◌, ap}
-use native.Mathlib.Omega.{arith}
-use lib.ListN.{drop, replicate}
-use lib.Seq.{drop-drop}
-use Rattle.replica.specs.Replica.{zero_record}
-use Rattle.replica.specs.ReplicaBytes.{log_record_width, record_of}
-use Rattle.images.specs.Layout.{part_at, stored_below, log_records_of}
-use Rattle.images.specs.ReadLaws.{stored_below_more}
+use Prim.Native.Nat.{◌≤◌, ◌-◌}
+use mathlib.Core.Path.{◌≡◌}
+use lib.ListN.{drop}
+use Rattle.images.specs.Layout.{log_records_of}
 use Rattle.images.proofs.read.log_of.Given as goal
 
 abbrev pub invariant-loop-x : goal.invariant-loop-x

@@ -1,4 +1,4 @@
-use Prim.Native.Nat.{◌+◌, ◌*◌, ◌-◌}
+use Prim.Native.Nat.{◌+◌, ◌*◌}
 use mathlib.Core.Path.{◌≡◌, ap}
 use native.Mathlib.Omega.{arith}
 use lib.ListN.{drop, replicate}
@@ -7,7 +7,7 @@ use Rattle.replica.specs.declared.Replica.{Replica}
 use Rattle.replica.specs.Replica.{zero_replica}
 use Rattle.images.specs.Read.{read_replica}
 use Rattle.images.specs.Layout.{replica_length, replica_with_log}
-use Rattle.images.specs.ReadLaws.{Filling, filling_start, filling_more, filling_next, filling_whole, ReplicaFits, replica_fits, replica_whole}
+use Rattle.images.specs.ReadLaws.{filling_start, filling_more, filling_next, filling_whole, ReplicaFits, replica_fits, replica_whole}
 use Rattle.images.proofs.read.replicas_of.Goals as goal
 
 pub overflow_cast-count : goal.overflow_cast-count

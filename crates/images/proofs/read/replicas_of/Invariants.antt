@@ -1,13 +1,9 @@
-use Prim.Native.Nat.{◌+◌, ◌*◌, ◌-◌}
-use mathlib.Core.Path.{◌≡◌, ap}
-use native.Mathlib.Omega.{arith}
-use lib.ListN.{drop, replicate}
+use Prim.Native.Nat.{◌-◌}
+use lib.ListN.{replicate}
 use Rattle.parts.specs.Mark.{byte_at}
-use Rattle.replica.specs.declared.Replica.{Replica}
 use Rattle.replica.specs.Replica.{zero_replica}
 use Rattle.images.specs.Read.{read_replica}
-use Rattle.images.specs.Layout.{replica_length, replica_with_log}
-use Rattle.images.specs.ReadLaws.{Filling, filling_start, filling_more, filling_next, filling_whole, ReplicaFits, replica_fits, replica_whole}
+use Rattle.images.specs.ReadLaws.{Filling}
 use Rattle.images.proofs.read.replicas_of.Given as goal
 
 abbrev pub invariant-loop-i : goal.invariant-loop-i

@@ -1,15 +1,13 @@
-use Prim.Native.Nat.{◌+◌, ◌*◌, ◌-◌}
+use Prim.Native.Nat.{◌+◌, ◌*◌}
 use mathlib.Core.Path.{◌≡◌, sym, ◌∙◌}
-use mathlib.Core.List.{List}
 use native.Mathlib.Omega.{arith}
 use lib.ListN.{drop, get_or, set, replicate}
 use Rattle.parts.specs.Bytes.{byte-at}
 use Rattle.parts.specs.Mark.{byte_at}
-use Rattle.replica.specs.declared.Replica.{Replica}
 use Rattle.replica.specs.Replica.{zero_replica}
 use Rattle.images.specs.Read.{read_replica}
 use Rattle.images.specs.Layout.{replica_length, replica_with_log}
-use Rattle.images.specs.ReadLaws.{Filling, filling_start, filling_more, filling_refused, filling_over, filling_all, ReplicaFits, replica_fits, replica_whole}
+use Rattle.images.specs.ReadLaws.{filling_start, filling_more, filling_refused, filling_over, filling_all, ReplicaFits, replica_fits, replica_whole}
 use Rattle.images.proofs.read.replicas_refusal.Goals as goal
 
 pub loop-i-init : goal.loop-i-init

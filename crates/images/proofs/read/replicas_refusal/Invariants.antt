@@ -1,15 +1,10 @@
-use Prim.Native.Nat.{◌+◌, ◌*◌, ◌-◌}
-use mathlib.Core.Path.{◌≡◌, sym, ◌∙◌}
+use Prim.Native.Nat.{◌-◌}
 use mathlib.Core.List.{List}
-use native.Mathlib.Omega.{arith}
-use lib.ListN.{drop, get_or, set, replicate}
-use Rattle.parts.specs.Bytes.{byte-at}
-use Rattle.parts.specs.Mark.{byte_at}
+use lib.ListN.{replicate}
 use Rattle.replica.specs.declared.Replica.{Replica}
 use Rattle.replica.specs.Replica.{zero_replica}
 use Rattle.images.specs.Read.{read_replica}
-use Rattle.images.specs.Layout.{replica_length, replica_with_log}
-use Rattle.images.specs.ReadLaws.{Filling, filling_start, filling_more, filling_refused, filling_over, filling_all, ReplicaFits, replica_fits, replica_whole}
+use Rattle.images.specs.ReadLaws.{Filling}
 use Rattle.images.proofs.read.replicas_refusal.Given as goal
 
 -- the first i replicas are there, whatever they say, and end at pos

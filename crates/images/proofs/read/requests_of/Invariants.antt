@@ -1,13 +1,8 @@
-use Prim.Native.Nat.{ℕ, ◌*◌, ◌≤◌, ◌-◌}
-use mathlib.Core.Path.{◌≡◌, refl, sym, ◌∙◌, ap}
-use native.Mathlib.Omega.{arith}
-use lib.ListN.{drop, replicate}
-use lib.Seq.{drop-drop}
-use Rattle.cluster.specs.State.{zero_request}
-use Rattle.images.specs.Image.{header_width, request_width}
-use Rattle.images.specs.Read.{request_of}
-use Rattle.images.specs.Layout.{part_at, stored_below, requests_of}
-use Rattle.images.specs.ReadLaws.{stored_below_more}
+use Prim.Native.Nat.{◌≤◌, ◌-◌}
+use mathlib.Core.Path.{◌≡◌}
+use lib.ListN.{drop}
+use Rattle.images.specs.Image.{header_width}
+use Rattle.images.specs.Layout.{requests_of}
 use Rattle.images.proofs.read.requests_of.Given as goal
 
 abbrev pub invariant-loop-e : goal.invariant-loop-e

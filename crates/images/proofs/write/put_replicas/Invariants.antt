@@ -1,9 +1,7 @@
 use Prim.Native.Nat.{◌≤◌, ◌-◌}
-use native.Mathlib.Omega.{arith}
-use Rattle.logic.specs.Stores.{Stored, stored_length, storing_start, storing_room, storing_more, storing_end}
+use Rattle.logic.specs.Stores.{Stored}
 use Rattle.logic.specs.Concat.{concat_below}
-use Rattle.cluster.specs.State.{replica_count_of}
-use Rattle.images.specs.Image.{replica_bytes_at, replicas_bytes}
+use Rattle.images.specs.Image.{replica_bytes_at}
 use Rattle.images.proofs.write.put_replicas.Given as goal
 
 abbrev pub invariant-loop-i : goal.invariant-loop-i

@@ -1,7 +1,5 @@
-use Prim.Native.Nat.{◌≤◌, ◌-◌}
 use native.Mathlib.Omega.{arith}
-use Rattle.logic.specs.Stores.{Stored, stored_length, storing_start, storing_room, storing_more, storing_end}
-use Rattle.logic.specs.Concat.{concat_below}
+use Rattle.logic.specs.Stores.{stored_length, storing_start, storing_room, storing_more, storing_end}
 use Rattle.images.specs.WriteLaws.{request_bytes_in}
 use Rattle.images.proofs.write.put_requests.Goals as goal
 

@@ -1,10 +1,7 @@
-use Prim.Native.Nat.{◌≤◌, ◌-◌}
 use mathlib.Core.Path.{◌≡◌}
 use native.Mathlib.Omega.{arith}
-use lib.ListN.{length}
-use Rattle.logic.specs.Concat.{concat_below}
 use Rattle.cluster.specs.State.{replica_count_of}
-use Rattle.images.specs.Image.{replica_bytes_at, replicas_bytes}
+use Rattle.images.specs.Image.{replicas_bytes}
 use Rattle.images.specs.ImageLaws.{replicas_start, replicas_more, replicas_most}
 use Rattle.images.proofs.write.replicas_length.Goals as goal
 

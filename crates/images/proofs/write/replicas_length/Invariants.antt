@@ -1,11 +1,8 @@
 use Prim.Native.Nat.{◌≤◌, ◌-◌}
 use mathlib.Core.Path.{◌≡◌}
-use native.Mathlib.Omega.{arith}
 use lib.ListN.{length}
 use Rattle.logic.specs.Concat.{concat_below}
-use Rattle.cluster.specs.State.{replica_count_of}
-use Rattle.images.specs.Image.{replica_bytes_at, replicas_bytes}
-use Rattle.images.specs.ImageLaws.{replicas_start, replicas_more, replicas_most}
+use Rattle.images.specs.Image.{replica_bytes_at}
 use Rattle.images.proofs.write.replicas_length.Given as goal
 
 abbrev pub invariant-loop-i : goal.invariant-loop-i

@@ -1,4 +1,3 @@
-use borrow.Author.Rules.{rules}
 use borrow.Author.Tests.{eq-eqb, ne_eqb}
 use Rattle.parts.specs.Mark.{marked}
 use Rattle.parts.proofs.mark.is_marked.Goals as goal

@@ -1,5 +1,4 @@
 use mathlib.Core.Path.{◌∙◌}
-use borrow.Author.Rules.{rules}
 use borrow.Author.Tests.{le-ltb, lt-ltb}
 use Rattle.logic.specs.Tests.{every_last, every_no, every_yes}
 use Rattle.replica.proofs.Record.same_below_ends.Goals as goal

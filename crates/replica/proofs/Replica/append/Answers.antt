@@ -1,5 +1,4 @@
 use mathlib.Core.Path.{refl}
-use borrow.Author.Rules.{rules}
 use Rattle.replica.specs.Change.{append}
 use Rattle.replica.proofs.Replica.append.Goals as goal
 

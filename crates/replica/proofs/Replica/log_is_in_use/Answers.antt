@@ -1,9 +1,6 @@
-use Prim.Native.Nat.{◌≤◌, ◌-◌}
-use mathlib.Core.Bool.{true}
-use mathlib.Core.Path.{◌≡◌, sym, ◌∙◌}
+use mathlib.Core.Path.{sym, ◌∙◌}
 use native.Mathlib.Omega.{arith}
-use borrow.Author.Rules.{rules}
-use Rattle.logic.specs.Tests.{all_below, all_none, all_more, all_done, all_fails}
+use Rattle.logic.specs.Tests.{all_none, all_more, all_done, all_fails}
 use Rattle.replica.specs.Log.{record_in_use_at, log_in_use}
 use Rattle.replica.proofs.Replica.log_is_in_use.Goals as goal
 

@@ -1,10 +1,8 @@
 use Prim.Native.Nat.{◌≤◌, ◌-◌}
 use mathlib.Core.Bool.{true}
-use mathlib.Core.Path.{◌≡◌, sym, ◌∙◌}
-use native.Mathlib.Omega.{arith}
-use borrow.Author.Rules.{rules}
-use Rattle.logic.specs.Tests.{all_below, all_none, all_more, all_done, all_fails}
-use Rattle.replica.specs.Log.{record_in_use_at, log_in_use}
+use mathlib.Core.Path.{◌≡◌}
+use Rattle.logic.specs.Tests.{all_below}
+use Rattle.replica.specs.Log.{record_in_use_at}
 use Rattle.replica.proofs.Replica.log_is_in_use.Given as goal
 
 abbrev pub invariant-loop-x : goal.invariant-loop-x

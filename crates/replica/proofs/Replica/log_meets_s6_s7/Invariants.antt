@@ -1,15 +1,11 @@
 use Prim.Native.Nat.{◌≤◌, ◌-◌}
 use mathlib.Core.Bool.{true}
-use mathlib.Core.Path.{◌≡◌, sym, ◌∙◌}
-use native.Mathlib.Omega.{arith}
-use borrow.Author.Rules.{rules}
-use borrow.Author.Tests.{not-true, not-false}
-use Rattle.logic.specs.Tests.{all_below, all_none, all_more, all_done, all_fails}
+use mathlib.Core.Path.{◌≡◌}
+use Rattle.logic.specs.Tests.{all_below}
 use Rattle.logic.specs.Concat.{concat_below}
-use Rattle.logic.specs.Entries.{Passed, passing_start, passing_more, passing_fails, passing_end}
-use Rattle.replica.specs.Log.{record_in_use_at, log_in_use}
-use Rattle.replica.specs.Entries.{entry_at, log_entries}
-use Rattle.replica.specs.EntryLaws.{log_unused, log_unlike, log_met}
+use Rattle.logic.specs.Entries.{Passed}
+use Rattle.replica.specs.Log.{record_in_use_at}
+use Rattle.replica.specs.Entries.{entry_at}
 use Rattle.replica.proofs.Replica.log_meets_s6_s7.Given as goal
 
 abbrev pub invariant-loop-x : goal.invariant-loop-x

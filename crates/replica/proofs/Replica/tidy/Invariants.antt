@@ -1,12 +1,7 @@
 use Prim.Native.Nat.{◌≤◌, ◌-◌}
-use mathlib.Core.Path.{◌≡◌, refl, ap}
-use native.Mathlib.Omega.{arith}
-use lib.ListN.{length, set}
-use borrow.Author.Rules.{rules}
-use Rattle.logic.specs.Table.{splice, splice_start, fill_turn, fill_end, length_mapped}
-use Rattle.replica.specs.Replica.{zero_record, record_at, with_log, tidy_record, tidy_replica}
-use Rattle.replica.specs.declared.Replica.{Replica}
-use Rattle.replica.specs.declared.Record.{Record}
+use mathlib.Core.Path.{◌≡◌}
+use Rattle.logic.specs.Table.{splice}
+use Rattle.replica.specs.Replica.{record_at, with_log, tidy_record}
 use Rattle.replica.proofs.Replica.tidy.Given as goal
 
 abbrev pub invariant-loop-x : goal.invariant-loop-x

@@ -1,6 +1,5 @@
 use Prim.Native.Nat.{ℕ}
 use mathlib.Core.Path.{◌∙◌, ap}
-use borrow.Author.Rules.{rules}
 use Rattle.replica.specs.Replica.{tidy_replica}
 use Rattle.replica.specs.Change.{truncate_to, with_end}
 use Rattle.replica.proofs.Replica.truncate_to.Goals as goal

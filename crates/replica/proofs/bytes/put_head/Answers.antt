@@ -1,4 +1,3 @@
-use borrow.Author.Rules.{rules}
 use Rattle.parts.specs.ByteLaws.{epoch_byte_kept}
 use Rattle.replica.proofs.bytes.put_head.Goals as goal
 

@@ -1,8 +1,5 @@
-use Prim.Native.Nat.{◌≤◌, ◌-◌}
 use native.Mathlib.Omega.{arith}
-use borrow.Author.Rules.{rules}
-use Rattle.logic.specs.Concat.{concat_below}
-use Rattle.logic.specs.Stores.{Stored, stored_length, storing_start, storing_room, storing_more, storing_end}
+use Rattle.logic.specs.Stores.{stored_length, storing_start, storing_room, storing_more, storing_end}
 use Rattle.replica.specs.ReplicaBytes.{record_bytes_at}
 use Rattle.replica.proofs.bytes.put_log.Goals as goal
 

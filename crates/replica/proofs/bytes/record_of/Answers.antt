@@ -1,5 +1,4 @@
 use Prim.Native.Nat.{◌+◌}
-use borrow.Author.Rules.{rules}
 use Rattle.parts.specs.ByteLaws.{epoch_kept}
 use Rattle.parts.specs.Bytes.{byte-at, first_byte}
 use Rattle.replica.proofs.bytes.record_of.Goals as goal
