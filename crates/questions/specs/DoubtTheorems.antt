@@ -11,7 +11,7 @@
 --   holds_after_cut                            holds_after for kind 3, whatever offset the log is cut to
 --   cut_exposes_no_more, cut_exposes_no_other  kind 3 exposes no more, and no other record id, whatever the offset
 --   act_holds_after                            holds_after for any state that accepts the action, tidy or not
-use Rattle.std.specs.Prelude.{ℕ, zero, suc, ◌≤◌, ◌<◌, ◌≡◌, Bool, ◌||◌, cond, ◌↔◌, ◌⊎◌}
+use Rattle.std.specs.Prelude.{ℕ, ◌≤◌, ◌<◌, ◌≡◌, Bool, ◌||◌, cond, ◌↔◌, ◌⊎◌}
 use Rattle.std.proofs.Math.Path.{refl}
 use Rattle.std.proofs.Common.{sym, ◌∙◌, ap, inl, inr, arith, le-ltb, ltb-false}
 use Rattle.std.proofs.Math.Bool.{true, false}

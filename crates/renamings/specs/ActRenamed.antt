@@ -9,7 +9,7 @@ use Rattle.std.proofs.Math.Decide.{dec_lt}
 use Rattle.std.proofs.Math.Dec.{ltb}
 use Rattle.logic.specs.Tests.{every_cong}
 use Rattle.logic.specs.Refuse.{refuse, by_map}
-use Rattle.parts.specs.Refusal.{accepted, unknown_kind, bad_operand}
+use Rattle.parts.specs.Refusal.{unknown_kind, bad_operand}
 use Rattle.cluster.specs.declared.State.{State}
 use Rattle.cluster.specs.declared.Action.{Action}
 use Rattle.cluster.specs.declared.ActionAnswer.{ActionAnswer}

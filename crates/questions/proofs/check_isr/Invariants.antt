@@ -1,20 +1,10 @@
-use Prim.Native.Nat.{ℕ, ◌-◌, ◌≤◌, ◌<◌}
-use mathlib.Core.Bool.{cond, false, not, true}
+use Prim.Native.Nat.{◌-◌, ◌≤◌}
+use mathlib.Core.Bool.{true}
 use mathlib.Core.Option.{none}
-use mathlib.Core.Path.{◌∙◌, ◌≡◌, ap, sym}
-use native.Mathlib.Omega.{arith}
-use lib.Dec.{eqb}
-use Rattle.cluster.specs.ActLaws.{hw_small, replica_five}
-use Rattle.cluster.specs.Predicates.{rules_iff}
-use Rattle.cluster.specs.State.{replica_at}
-use Rattle.logic.specs.Search.{first_done, first_more, first_none, first_triple_found, first_below, first_second, first_third, first_triple, passing, passing_no}
-use Rattle.parts.specs.Isr.{member}
-use Rattle.parts.specs.Leader.{names}
+use mathlib.Core.Path.{◌≡◌}
+use Rattle.logic.specs.Search.{first_below, first_second, first_third, passing}
 use Rattle.parts.specs.Refusal.{accepted}
-use Rattle.questions.specs.Isr.{check_isr, differ_at, isr_answer, isr_answer_of, offsets_asked, smallest_failure}
-use Rattle.questions.specs.IsrLaws.{below_cond, compared, compared_asked, compared_below, members_done, offsets_done}
-use Rattle.questions.specs.declared.IsrAnswer.{IsrAnswer}
-use Rattle.replica.specs.Log.{hold_same_record}
+use Rattle.questions.specs.Isr.{differ_at, isr_answer, offsets_asked}
 use Rattle.questions.proofs.check_isr.Given as goal
 
 abbrev pub invariant-loop-x : goal.invariant-loop-x

@@ -1,4 +1,3 @@
-use borrow.Author.Rules.{rules}
 use Rattle.questions.proofs.strong_isr.Goals as goal
 
 pub returns : goal.returns

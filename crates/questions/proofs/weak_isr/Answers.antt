@@ -1,4 +1,3 @@
-use borrow.Author.Rules.{rules}
 use Rattle.questions.proofs.weak_isr.Goals as goal
 
 pub returns : goal.returns

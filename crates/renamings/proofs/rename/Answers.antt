@@ -1,5 +1,4 @@
 use mathlib.Core.Path.{sym, ◌∙◌}
-use borrow.Author.Tests.{not-true, not-false}
 use Rattle.renamings.specs.Rename.{renamed}
 use Rattle.cluster.specs.State.{tidy}
 use Rattle.cluster.specs.Unused.{rules_tidy}

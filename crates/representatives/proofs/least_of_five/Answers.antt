@@ -1,11 +1,9 @@
-use Prim.Native.Nat.{ℕ, ◌+◌, ◌*◌, ◌-◌, ◌≤◌}
+use Prim.Native.Nat.{◌+◌}
 use mathlib.Core.Path.{◌≡◌, sym, ap, ◌∙◌}
 use native.Mathlib.Omega.{arith}
 use Rattle.cluster.specs.State.{replica_count_of}
-use Rattle.renamings.specs.Rename.{Renames}
 use Rattle.renamings.specs.Fitting.{factorial, counts_are_factorials}
-use Rattle.representatives.specs.Search.{least_behind, first_renames, least_start, least_done}
-use Rattle.representatives.specs.Representative.{least_renaming}
+use Rattle.representatives.specs.Search.{first_renames, least_start, least_done}
 use Rattle.representatives.proofs.least_of_five.Goals as goal
 
 pub loop-first-init : goal.loop-first-init

@@ -1,10 +1,7 @@
-use Prim.Native.Nat.{ℕ, ◌+◌, ◌*◌, ◌-◌, ◌≤◌}
-use mathlib.Core.Path.{◌≡◌, sym, ap, ◌∙◌}
-use native.Mathlib.Omega.{arith}
-use Rattle.cluster.specs.State.{replica_count_of}
+use Prim.Native.Nat.{ℕ, ◌*◌, ◌-◌, ◌≤◌}
+use mathlib.Core.Path.{◌≡◌}
 use Rattle.renamings.specs.Rename.{Renames}
-use Rattle.renamings.specs.Fitting.{factorial, counts_are_factorials}
-use Rattle.representatives.specs.Search.{least_behind, first_renames, least_start, least_done}
+use Rattle.representatives.specs.Search.{least_behind}
 use Rattle.representatives.specs.Representative.{least_renaming}
 use Rattle.representatives.proofs.least_of_five.Given as goal
 

@@ -1,12 +1,8 @@
-use Prim.Native.Nat.{ℕ, ◌-◌, ◌≤◌, ◌<◌}
-use mathlib.Core.Path.{◌≡◌, sym, ap, ◌∙◌}
+use Prim.Native.Nat.{◌-◌, ◌≤◌}
+use mathlib.Core.Path.{◌≡◌}
 use mathlib.Core.Bool.{true}
-use native.Mathlib.Omega.{arith}
-use Rattle.logic.specs.Tests.{all_below, all_none, all_more, all_done}
-use Rattle.cluster.specs.State.{replica_at}
-use Rattle.cluster.specs.ActLaws.{replica_five, hw_small}
-use Rattle.questions.specs.Doubt.{agree_from, pair_agrees, leader_agrees, holds_in_doubt}
-use Rattle.questions.specs.DoubtCode.{members_of, offsets_of, offsets_below, member_below, pair_is, members_past, pair_fails}
+use Rattle.logic.specs.Tests.{all_below}
+use Rattle.questions.specs.Doubt.{pair_agrees, leader_agrees}
 use Rattle.questions.proofs.doubt.holds_in_doubt.Given as goal
 
 abbrev pub invariant-loop-m : goal.invariant-loop-m

@@ -1,8 +1,6 @@
-use Prim.Native.Nat.{◌-◌, ◌≤◌}
-use mathlib.Core.Path.{◌≡◌, sym, ◌∙◌}
-use mathlib.Core.Bool.{true}
+use mathlib.Core.Path.{sym, ◌∙◌}
 use native.Mathlib.Omega.{arith}
-use Rattle.logic.specs.Tests.{all_below, all_more, all_fails}
+use Rattle.logic.specs.Tests.{all_more, all_fails}
 use Rattle.replica.specs.Log.{hold_same_record}
 use Rattle.questions.specs.Doubt.{agree_from}
 use Rattle.questions.specs.DoubtCode.{from_none, from_same, from_differ, all_past}

@@ -1,11 +1,8 @@
 use Prim.Native.Nat.{◌-◌, ◌≤◌}
 use mathlib.Core.Option.{none}
-use mathlib.Core.Path.{◌∙◌, ◌≡◌, ap, sym}
-use native.Mathlib.Omega.{arith}
-use Rattle.logic.specs.Search.{first_none, first_below, first_second, first_third}
+use mathlib.Core.Path.{◌≡◌}
+use Rattle.logic.specs.Search.{first_below, first_third}
 use Rattle.questions.specs.Offer.{epoch_bound, is_accepted}
-use Rattle.questions.specs.OfferLaws.{offer_done, offer_found, offer_more}
-use Rattle.questions.specs.declared.OfferAnswer.{OfferAnswer}
 use Rattle.questions.proofs.search.offer_with_a.Given as goal
 
 abbrev pub invariant-loop-b : goal.invariant-loop-b

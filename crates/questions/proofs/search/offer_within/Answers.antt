@@ -1,9 +1,7 @@
-use Prim.Native.Nat.{◌-◌, ◌≤◌}
-use mathlib.Core.Option.{none}
-use mathlib.Core.Path.{◌∙◌, ◌≡◌, ap, sym}
+use mathlib.Core.Path.{◌∙◌, ap, sym}
 use native.Mathlib.Omega.{arith}
-use Rattle.logic.specs.Search.{first_none, first_below, first_second, first_triple}
-use Rattle.questions.specs.Offer.{epoch_bound, is_accepted, smallest_accepted}
+use Rattle.logic.specs.Search.{first_none, first_triple}
+use Rattle.questions.specs.Offer.{smallest_accepted}
 use Rattle.questions.specs.OfferLaws.{offer_done, offer_found, offer_more}
 use Rattle.questions.specs.declared.OfferAnswer.{OfferAnswer}
 use Rattle.questions.proofs.search.offer_within.Goals as goal

@@ -1,8 +1,6 @@
-use Prim.Native.Nat.{◌≤◌, ◌-◌}
 use mathlib.Core.Path.{◌≡◌}
 use native.Mathlib.Omega.{arith}
-use Rattle.logic.specs.Table.{table}
-use Rattle.renamings.specs.Names.{holder, old_name, inverted}
+use Rattle.renamings.specs.Names.{old_name, inverted}
 use Rattle.renamings.specs.CodeLaws.{new_name_place, inverse_start, inverse_turn}
 use Rattle.renamings.proofs.places.inverse.Goals as goal
 

@@ -1,9 +1,7 @@
 use Prim.Native.Nat.{◌≤◌, ◌-◌}
 use mathlib.Core.Path.{◌≡◌}
-use native.Mathlib.Omega.{arith}
 use Rattle.logic.specs.Table.{table}
-use Rattle.renamings.specs.Names.{holder, old_name, inverted}
-use Rattle.renamings.specs.CodeLaws.{new_name_place, inverse_start, inverse_turn}
+use Rattle.renamings.specs.Names.{holder}
 use Rattle.renamings.proofs.places.inverse.Given as goal
 
 abbrev pub invariant-loop-i : goal.invariant-loop-i

@@ -1,10 +1,9 @@
-use Prim.Native.Nat.{◌≤◌, ◌-◌}
-use mathlib.Core.Bool.{true, not}
-use mathlib.Core.Path.{◌≡◌, sym, ap, ◌∙◌}
+use mathlib.Core.Bool.{not}
+use mathlib.Core.Path.{sym, ap, ◌∙◌}
 use native.Mathlib.Omega.{arith}
 use borrow.Author.Tests.{eq-eqb, ne_eqb}
-use Rattle.logic.specs.Tests.{all_below, all_none, all_more, all_fails, all_done}
-use Rattle.renamings.specs.Names.{new_name, other_than, is_new}
+use Rattle.logic.specs.Tests.{all_none, all_more, all_fails, all_done}
+use Rattle.renamings.specs.Names.{other_than, is_new}
 use Rattle.renamings.proofs.places.is_new.Goals as goal
 
 pub loop-j-init : goal.loop-j-init

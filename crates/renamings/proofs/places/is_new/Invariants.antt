@@ -1,10 +1,8 @@
 use Prim.Native.Nat.{◌≤◌, ◌-◌}
-use mathlib.Core.Bool.{true, not}
-use mathlib.Core.Path.{◌≡◌, sym, ap, ◌∙◌}
-use native.Mathlib.Omega.{arith}
-use borrow.Author.Tests.{eq-eqb, ne_eqb}
-use Rattle.logic.specs.Tests.{all_below, all_none, all_more, all_fails, all_done}
-use Rattle.renamings.specs.Names.{new_name, other_than, is_new}
+use mathlib.Core.Bool.{true}
+use mathlib.Core.Path.{◌≡◌}
+use Rattle.logic.specs.Tests.{all_below}
+use Rattle.renamings.specs.Names.{new_name, other_than}
 use Rattle.renamings.proofs.places.is_new.Given as goal
 
 abbrev pub invariant-loop-j : goal.invariant-loop-j

@@ -1,8 +1,6 @@
-use Prim.Native.Nat.{◌≤◌, ◌-◌}
-use mathlib.Core.Bool.{true}
-use mathlib.Core.Path.{◌≡◌, sym, ◌∙◌}
+use mathlib.Core.Path.{sym, ◌∙◌}
 use native.Mathlib.Omega.{arith}
-use Rattle.logic.specs.Tests.{all_below, all_none, all_more, all_fails, all_done}
+use Rattle.logic.specs.Tests.{all_none, all_more, all_fails, all_done}
 use Rattle.renamings.specs.Names.{place_fits, is_renaming}
 use Rattle.renamings.proofs.places.is_renaming.Goals as goal
 

@@ -1,9 +1,8 @@
 use Prim.Native.Nat.{◌≤◌, ◌-◌}
 use mathlib.Core.Bool.{true}
-use mathlib.Core.Path.{◌≡◌, sym, ◌∙◌}
-use native.Mathlib.Omega.{arith}
-use Rattle.logic.specs.Tests.{all_below, all_none, all_more, all_fails, all_done}
-use Rattle.renamings.specs.Names.{place_fits, is_renaming}
+use mathlib.Core.Path.{◌≡◌}
+use Rattle.logic.specs.Tests.{all_below}
+use Rattle.renamings.specs.Names.{place_fits}
 use Rattle.renamings.proofs.places.is_renaming.Given as goal
 
 abbrev pub invariant-loop-i : goal.invariant-loop-i

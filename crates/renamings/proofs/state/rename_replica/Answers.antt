@@ -1,7 +1,6 @@
 use mathlib.Core.Path.{refl}
 use mir.Facts.{to_z-of_z}
 use mir.Syntax.{w8}
-use borrow.Author.Rules.{rules}
 use Rattle.renamings.proofs.state.rename_replica.Goals as goal
 
 pub returns : goal.returns

@@ -1,10 +1,9 @@
-use Prim.Native.Nat.{◌≤◌, ◌-◌}
 use mathlib.Core.Path.{◌≡◌, refl}
 use mathlib.Core.List.{List}
 use native.Mathlib.Omega.{arith}
 use lib.ListN.{length, set}
 use borrow.Author.Rules.{rules}
-use Rattle.logic.specs.Table.{splice, splice_start, fill_turn, fill_end, length_mapped}
+use Rattle.logic.specs.Table.{splice_start, fill_turn, fill_end, length_mapped}
 use Rattle.replica.specs.declared.Replica.{Replica}
 use Rattle.replica.specs.Replica.{no_replica}
 use Rattle.cluster.specs.State.{replica_in}

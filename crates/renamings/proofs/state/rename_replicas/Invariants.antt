@@ -1,16 +1,9 @@
 use Prim.Native.Nat.{◌≤◌, ◌-◌}
-use mathlib.Core.Path.{◌≡◌, refl}
-use mathlib.Core.List.{List}
-use native.Mathlib.Omega.{arith}
-use lib.ListN.{length, set}
-use borrow.Author.Rules.{rules}
-use Rattle.logic.specs.Table.{splice, splice_start, fill_turn, fill_end, length_mapped}
-use Rattle.replica.specs.declared.Replica.{Replica}
-use Rattle.replica.specs.Replica.{no_replica}
+use mathlib.Core.Path.{◌≡◌}
+use Rattle.logic.specs.Table.{splice}
 use Rattle.cluster.specs.State.{replica_in}
 use Rattle.renamings.specs.Names.{new_name, old_name}
-use Rattle.renamings.specs.Rename.{renamed_replica_at, rename_replicas}
-use Rattle.renamings.specs.CodeLaws.{isr_named, back_old, back_below}
+use Rattle.renamings.specs.Rename.{renamed_replica_at}
 use Rattle.renamings.proofs.state.rename_replicas.Given as goal
 
 abbrev pub invariant-loop-j : goal.invariant-loop-j

@@ -1,12 +1,7 @@
 use Prim.Native.Nat.{◌≤◌, ◌-◌}
-use mathlib.Core.Path.{◌≡◌, refl}
-use mathlib.Core.List.{List}
-use native.Mathlib.Omega.{arith}
-use lib.ListN.{length, set}
-use borrow.Author.Rules.{rules}
-use Rattle.logic.specs.Table.{splice, splice_start, fill_turn, fill_end, length_mapped}
-use Rattle.cluster.specs.declared.Request.{Request}
-use Rattle.cluster.specs.State.{zero_request, request_in}
+use mathlib.Core.Path.{◌≡◌}
+use Rattle.logic.specs.Table.{splice}
+use Rattle.cluster.specs.State.{request_in}
 use Rattle.renamings.specs.CodeLaws.{request_looked_up}
 use Rattle.renamings.proofs.state.rename_requests.Given as goal
 

@@ -1,10 +1,10 @@
-use Prim.Native.Nat.{ℕ, ◌≤◌, ◌-◌}
-use mathlib.Core.Path.{◌≡◌, refl}
+use Prim.Native.Nat.{ℕ}
+use mathlib.Core.Path.{refl}
 use mathlib.Core.List.{List}
 use native.Mathlib.Omega.{arith}
 use lib.ListN.{set}
-use Rattle.logic.specs.Table.{splice, splice_start, fill_turn, fill_end}
-use Rattle.renamings.specs.Names.{name_in, old_name}
+use Rattle.logic.specs.Table.{splice_start, fill_turn, fill_end}
+use Rattle.renamings.specs.Names.{old_name}
 use Rattle.renamings.specs.Rename.{rename_isr}
 use Rattle.renamings.proofs.state.renamed_isrs.Goals as goal
 

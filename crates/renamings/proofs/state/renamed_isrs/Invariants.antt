@@ -1,9 +1,6 @@
-use Prim.Native.Nat.{ℕ, ◌≤◌, ◌-◌}
-use mathlib.Core.Path.{◌≡◌, refl}
-use mathlib.Core.List.{List}
-use native.Mathlib.Omega.{arith}
-use lib.ListN.{set}
-use Rattle.logic.specs.Table.{splice, splice_start, fill_turn, fill_end}
+use Prim.Native.Nat.{◌≤◌, ◌-◌}
+use mathlib.Core.Path.{◌≡◌}
+use Rattle.logic.specs.Table.{splice}
 use Rattle.renamings.specs.Names.{name_in, old_name}
 use Rattle.renamings.specs.Rename.{rename_isr}
 use Rattle.renamings.proofs.state.renamed_isrs.Given as goal

@@ -1,12 +1,8 @@
-use Prim.Native.Nat.{ℕ, ◌+◌, ◌*◌, ◌≤◌, ◌-◌}
-use mathlib.Core.Path.{◌≡◌, refl, ap}
-use mathlib.Core.List.{List}
-use native.Mathlib.Omega.{arith}
-use lib.ListN.{get_or, set}
-use Rattle.logic.specs.Concat.{concat_below}
-use Rattle.logic.specs.Table.{splice, splice_start, fill_turn, fill_end}
-use Rattle.renamings.specs.Names.{name_in, table_numbers, rows, orders, without_place}
-use Rattle.renamings.specs.Fitting.{part_number, part_numbers}
+use Prim.Native.Nat.{◌≤◌, ◌-◌}
+use mathlib.Core.Path.{◌≡◌}
+use Rattle.logic.specs.Table.{splice}
+use Rattle.renamings.specs.Names.{name_in, table_numbers}
+use Rattle.renamings.specs.Fitting.{part_number}
 use Rattle.renamings.proofs.table.part.Given as goal
 
 abbrev pub invariant-loop-k : goal.invariant-loop-k

@@ -1,17 +1,9 @@
-use Prim.Native.Nat.{ℕ, ◌≤◌, ◌<◌, ◌-◌}
-use mathlib.Core.Bool.{true}
-use mathlib.Core.Path.{◌≡◌, sym, ap, ap₂, ◌∙◌}
-use native.Mathlib.Omega.{arith}
-use borrow.Author.Tests.{eqb-true}
-use Rattle.cluster.specs.State.{replica_count_of, replica_in}
-use Rattle.cluster.specs.RuleLaws.{rules_bounded}
-use Rattle.renamings.specs.Names.{is_renaming}
-use Rattle.renamings.specs.CodeLaws.{both_inward, renames_wide, back_old, back_below}
+use Prim.Native.Nat.{◌≤◌, ◌-◌}
+use mathlib.Core.Path.{◌≡◌}
+use Rattle.cluster.specs.State.{replica_count_of}
 use Rattle.representatives.specs.declared.compare.Comparison.TheVariants.{Equal}
-use Rattle.representatives.specs.Comparison.{decision_below, decision_none, decision_found, decision_passed, decision_end}
-use Rattle.representatives.specs.Fields.{compare_replicas, compare_replicas_at, compare_all_replicas}
-use Rattle.representatives.specs.CodeLaws.{old_short}
-use borrow.Author.Rules.{rules}
+use Rattle.representatives.specs.Comparison.{decision_below}
+use Rattle.representatives.specs.Fields.{compare_replicas_at}
 use Rattle.representatives.proofs.compare.compare_all_replicas.Given as goal
 
 abbrev pub invariant-loop-j : goal.invariant-loop-j

@@ -1,13 +1,9 @@
 use Prim.Native.Nat.{◌≤◌, ◌-◌}
 use mathlib.Core.Path.{◌≡◌}
-use native.Mathlib.Omega.{arith}
 use Rattle.cluster.specs.State.{next_leader_epoch_of}
-use Rattle.cluster.specs.RuleLaws.{rules_bounded}
-use Rattle.renamings.specs.CodeLaws.{renames_wide}
 use Rattle.representatives.specs.declared.compare.Comparison.TheVariants.{Equal}
-use Rattle.representatives.specs.Comparison.{decision_below, decision_none, decision_found, decision_passed, decision_end}
-use Rattle.representatives.specs.Fields.{compare_requests_at, compare_all_requests}
-use borrow.Author.Rules.{rules}
+use Rattle.representatives.specs.Comparison.{decision_below}
+use Rattle.representatives.specs.Fields.{compare_requests_at}
 use Rattle.representatives.proofs.compare.compare_all_requests.Given as goal
 
 abbrev pub invariant-loop-e : goal.invariant-loop-e

@@ -1,8 +1,5 @@
-use Prim.Native.Nat.{◌≤◌, ◌-◌}
-use mathlib.Core.Path.{◌≡◌}
 use native.Mathlib.Omega.{arith}
-use Rattle.representatives.specs.declared.compare.Comparison.TheVariants.{Equal}
-use Rattle.representatives.specs.Comparison.{decision_below, decision_none, decision_found, decision_passed, decision_end}
+use Rattle.representatives.specs.Comparison.{decision_none, decision_found, decision_passed, decision_end}
 use Rattle.representatives.specs.Fields.{compare_records_at, compare_logs}
 use Rattle.representatives.proofs.compare.compare_logs.Goals as goal
 

@@ -1,4 +1,3 @@
-use borrow.Author.Rules.{rules}
 use Rattle.runs.proofs.Tally.after.Goals as goal
 
 pub returns : goal.returns
