@@ -116,44 +116,6 @@ module _ (s : State) where
   table_listed FollowerReplicate a b e = let row = refuse_row FollowerReplicate in row _ _ _ refl (row _ _ _ refl (row _ _ _ refl refl))
   table_listed Unknown a b e = refl
 
--- each row is within the list of all
-row_within : (kind : Kind) → every (map (listed (accepted ∷ action_numbers)) (accepted ∷ row_numbers kind)) ≡ true
-unfolding listed every row_numbers
-row_within ControllerShrinkIsr = refl
-row_within ControllerElectLeader = refl
-row_within BecomeLeader = refl
-row_within BecomeFollower = refl
-row_within LeaderWrite = refl
-row_within LeaderShrinkIsr = refl
-row_within LeaderExpandIsr = refl
-row_within LeaderIncHighWatermark = refl
-row_within FollowerReplicate = refl
-row_within Unknown = refl
-
--- of an action on a state that meets the rules and is tidy
-action_listed : (s : State) (action : Action) → listed (accepted ∷ action_numbers) (action_refusal s action) ≡ true
-unfolding action_refusal listed
-action_listed s action =
-    let kind = kind_of action.kind in
-    let listed_by = listed_refuse (accepted ∷ action_numbers) in
-    listed_by _ _ _ refl
-    (listed_by _ _ _ refl
-    (listed_within (accepted ∷ row_numbers kind) (accepted ∷ action_numbers) (table_refusal kind s action.a action.b action.e) (row_within kind)
-    (table_listed s kind action.a action.b action.e)))
-
--- of one on a state that meets the rules
-pub met_listed : (s : State) (action : Action) → rules s ≡ true → listed (accepted ∷ action_numbers) (refusal s action) ≡ true
-met_listed s action h = ap (listed (accepted ∷ action_numbers)) (sym (refusal_of_met s action h)) ∙ action_listed (tidy s) action
-
--- and of one on any state
-pub refusal_listed : (s : State) (action : Action) → listed (accepted ∷ state_numbers ++ action_numbers) (refusal s action) ≡ true
-unfolding refusal listed every
-refusal_listed s action =
-    let all : List ℕ = accepted ∷ state_numbers ++ action_numbers in
-    listed_first all (state_refusal s) (action_refusal (tidy s) action)
-    (listed_within (accepted ∷ state_numbers) all (state_refusal s) refl (state_listed s))
-    (listed_within (accepted ∷ action_numbers) all (action_refusal (tidy s) action) refl (action_listed (tidy s) action))
-
 -- ---- equal states get equal answers: no answer depends on unused room
 answer_same : (n member : ℕ) (s t next : State) → Same s t → Same (answer_by n member s next).state (answer_by n member t next).state
 unfolding answer_by by_refusal

@@ -1,5 +1,5 @@
--- The member that an action's answer names: beside 48 and 49 the smallest member of a's ISR with that fault, 0 beside every other
--- number. Assumes nothing.
+-- The member that an action's answer names: beside 48 and 49 the smallest member of a's ISR with that fault
+-- (proofs/NamedMember.antt), 0 beside every other number. Assumes nothing.
 --
 --   test_number test                 the number that says that some member does not pass the test
 --   not_following_iff               kind 7 gives 48 exactly where a presumes and some member does not follow it
@@ -7,7 +7,6 @@
 --   SmallestMember test s a m       m is in a's ISR and does not pass the test, and no smaller member is so
 --   isr_tidy, passes_tidy           the ISR, and the tests, are the same of the tidy form
 --   named_kind, named_below         48 and 49 are given to kind 7 alone, of a replica below R
---   member-named                    an answer with 48 or 49 names that member
 --   member_none                     an answer with any other number names 0
 use Rattle.std.specs.Prelude.{ℕ, ◌≤◌, ◌<◌, ◌≡◌, true, false, List, ◌∷◌, ◌↔◌}
 use Rattle.std.proofs.Math.Path.{refl, sym}
@@ -34,9 +33,9 @@ use Rattle.cluster.specs.Predicates.{rules_iff}
 use Rattle.cluster.specs.Equality.{tidy-replica, tidy_same}
 use Rattle.cluster.specs.Unused.{rules_tidy}
 use Rattle.cluster.specs.Actions.{replica_presumes_leadership, replica_is_following, passes_test, member_passes, members_pass, first_not_passing, member_named, leader_inc_high_watermark_refusal}
-use Rattle.cluster.specs.Act.{kind_of, table_refusal, action_refusal, refusal, act}
-use Rattle.cluster.specs.ActLaws.{first_operand, named_none, named_not_following, named_lacks_offset}
-use Rattle.actions.specs.Answers.{row_numbers, table_listed, act_number, act_accepted, act_refused}
+use Rattle.cluster.specs.Act.{kind_of, table_refusal, action_refusal, effect, refusal, act}
+use Rattle.cluster.specs.ActLaws.{answer_zero, first_operand, named_none, named_not_following, named_lacks_offset}
+use Rattle.actions.specs.Answers.{row_numbers, table_listed, act_number, act_refused}
 
 -- the number that says that some member of the ISR does not pass a test
 unfoldable pub test_number : MemberTest → ℕ
@@ -72,12 +71,6 @@ module _ (s : State) (a : ℕ) where
         ∙ refuse_no _ member_not_following _ (ap not t.1)
         ∙ refuse_no _ not_presuming _ (ap not t.0))),
   )
-
-  -- where it gives the number of a test, not every member passes
-  not_all_pass : (test : MemberTest) → leader_inc_high_watermark_refusal s a ≡ test_number test → members_pass test s a ≡ false
-  unfolding test_number
-  not_all_pass IsFollowing h = (not_following_iff.0 h).1
-  not_all_pass HasOffset h = (lacks_offset_iff.0 h).2
 
 -- ---- no other kind gives 48 or 49
 not_named : (test : MemberTest) (l : List ℕ) (n : ℕ) → listed l n ≡ true → listed l member_not_following ≡ false → listed l member_lacks_offset ≡ false
@@ -135,7 +128,7 @@ module _ (s : State) (five : replica_count_of s.limits ≤ 5) (a : ℕ) (la : a 
   passes_tidy IsFollowing m l = rw (tidy-replica s m (omega (arith, five)) l) refl
   passes_tidy HasOffset m l = rw (tidy-replica s a (omega (arith, five)) la, tidy-replica s m (omega (arith, five)) l) refl
 
-  member_tidy : (test : MemberTest) (m : ℕ) → SmallestMember test (tidy s) a m → SmallestMember test s a m
+  pub member_tidy : (test : MemberTest) (m : ℕ) → SmallestMember test (tidy s) a m → SmallestMember test s a m
   member_tidy test m f =
       let l : m < replica_count_of s.limits = subst (λ c. m < replica_count_of c) (tidy_same s).limits f.below in
       record {
@@ -146,18 +139,18 @@ module _ (s : State) (five : replica_count_of s.limits ≤ 5) (a : ℕ) (la : a 
       }
 
 -- an answer with the number of a test names the smallest member that does not pass it
-test_number_past : (test : MemberTest) → bad_operand < test_number test
+pub test_number_past : (test : MemberTest) → bad_operand < test_number test
 unfolding test_number
 test_number_past IsFollowing = omega arith
 test_number_past HasOffset = omega arith
 
-named_by : (test : MemberTest) (n : ℕ) (s : State) (a : ℕ) → n ≡ test_number test → first_not_passing test s a ≡ member_named n s a
+pub named_by : (test : MemberTest) (n : ℕ) (s : State) (a : ℕ) → n ≡ test_number test → first_not_passing test s a ≡ member_named n s a
 unfolding test_number
 named_by IsFollowing n s a h = named_not_following n s a h
 named_by HasOffset n s a h = named_lacks_offset n s a h
 
 -- the action is of kind 7, and the number is that of its row
-named_where : (test : MemberTest) (s : State) (action : Action) → action_refusal s action ≡ test_number test
+pub named_where : (test : MemberTest) (s : State) (action : Action) → action_refusal s action ≡ test_number test
     → (kind_of action.kind ≡ LeaderIncHighWatermark) × (leader_inc_high_watermark_refusal s action.a ≡ test_number test)
 unfolding action_refusal table_refusal
 named_where test s action h =
@@ -168,7 +161,7 @@ named_where test s action h =
     (kind, ap (λ k. table_refusal k s action.a action.b action.e) (sym kind) ∙ q.1)
 
 module _ (test : MemberTest) (s : State) (action : Action) (h : (act s action).refusal ≡ test_number test) where
-  by_table : (state_refusal s ≡ accepted) × (action_refusal (tidy s) action ≡ test_number test)
+  pub by_table : (state_refusal s ≡ accepted) × (action_refusal (tidy s) action ≡ test_number test)
   unfolding refusal listed
   by_table =
       first_other (state_refusal s) (action_refusal (tidy s) action) (test_number test) (sym (act_number s action) ∙ h)
@@ -187,26 +180,13 @@ module _ (test : MemberTest) (s : State) (action : Action) (h : (act s action).r
   pub named_below : action.a < replica_count_of s.limits
   named_below = subst (λ c. action.a < replica_count_of c) (tidy_same s).limits named_below_tidy
 
-  pub member-named : SmallestMember test s action.a (act s action).member
-  member-named =
-      let met = refusal_met s by_table.0 in
-      let past = test_number_past test in
-      let n : refusal s action ≡ test_number test = sym (act_number s action) ∙ h in
-      let named : (act s action).member ≡ first_not_passing test (tidy s) action.a =
-      ap (λ (r : ActionAnswer). r.member) (act_refused s action (λ e. omega (arith, e, n, past)))
-      ∙ sym (named_by test (refusal s action) (tidy s) action.a n) in
-      rw named
-      (member_tidy s ((rules_iff s).0 met).s1.ranges.replicas action.a named_below test
-      (first_not_passing test (tidy s) action.a)
-      (smallest_member test (tidy s) action.a
-      (not_all_pass (tidy s) action.a test (named_where test (tidy s) action by_table.1).1)))
-
 -- an answer with any other number names 0
 pub member_none : (s : State) (action : Action) → ((act s action).refusal ≡ member_not_following → ⊥) → ((act s action).refusal ≡ member_lacks_offset → ⊥)
     → (act s action).member ≡ 0
+unfolding act
 member_none s action f o =
     elim (ℕ_discrete (refusal s action) accepted) [
-      | yes e ↦ ap (λ (r : ActionAnswer). r.member) (act_accepted s action e)
+      | yes e ↦ ap (λ (r : ActionAnswer). r.member) (sym (answer_zero (refusal s action) _ s (effect (tidy s) action) e))
       | no e ↦
           ap (λ (r : ActionAnswer). r.member) (act_refused s action e)
           ∙ sym (named_none (refusal s action) (tidy s) action.a (λ k. f (act_number s action ∙ k)) (λ k. o (act_number s action ∙ k)))

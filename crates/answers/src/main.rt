@@ -28,7 +28,9 @@ ghost use Rattle.std.specs.Prelude.{◌≡◌, ◌≤◌, length};
 
 use cluster::{Action, Limits, State};
 use flat::read::state_of;
-use libc::STDIN_FILENO;
+use std::io;
+use std::io::Read;
+use std::process::ExitCode;
 
 // The most bytes that a question has. The caller of each function that takes a question shows that there is room for so many.
 const LONGEST: usize = 257;
@@ -94,10 +96,11 @@ fn places_of(question: &[u8]) -> [u8; 5]
     ]
 }
 
-// What an action answers on a state. This and each function below that writes a line answers whether all was written.
-fn act(s: State, action: Action) -> bool {
+// What an action answers on a state.
+fn act(out: &impl Print, s: State, action: Action) -> io::Result<()> {
     let answer = s.act(action);
     print::state(
+        out,
         b"act",
         &[answer.refusal as u64, answer.member as u64],
         answer.state,
@@ -105,85 +108,93 @@ fn act(s: State, action: Action) -> bool {
 }
 
 // What writing the image of a state into a buffer answers and leaves there.
-fn write_into(s: State, buffer: &mut [u8]) -> bool {
+fn write_into(out: &impl Print, s: State, buffer: &mut [u8]) -> io::Result<()> {
     let written = images::write_image(s, &mut buffer[..]);
-    print::image(written, buffer)
+    print::image(out, written, buffer)
 }
 
 // The same of a buffer of n bytes that all hold 238. The caller shows that n is at most 255.
-fn write(s: State, n: usize) -> bool
+fn write(out: &impl Print, s: State, n: usize) -> io::Result<()>
     requires { n ≤ 255 }
 {
     let mut buffer = [238u8; 255];
-    write_into(s, &mut buffer[..n])
+    write_into(out, s, &mut buffer[..n])
 }
 
 // What reading the bytes of a question as an image answers.
-fn read(question: &[u8]) -> bool
+fn read(out: &impl Print, question: &[u8]) -> io::Result<()>
     requires { 257 ≤ length question.now }
 {
     let end = size(question[1]) + 2;
-    print::outcome(b"read", images::read_image(&question[2..end]))
+    print::outcome(out, b"read", images::read_image(&question[2..end]))
 }
 
 // Answers a question by its first byte, as the list above has it.
-fn answer(question: &[u8]) -> bool
+fn answer(out: &impl Print, question: &[u8]) -> io::Result<()>
     requires { 257 ≤ length question.now }
 {
     match question[0] {
-        0 => print::outcome(b"fresh", State::fresh(limits_of(question))),
-        1 => print::rule(state_of(&question[1..]).state_refusal()),
-        2 => act(state_of(&question[5..]), action_of(question)),
+        0 => print::outcome(out, b"fresh", State::fresh(limits_of(question))),
+        1 => print::rule(out, state_of(&question[1..]).state_refusal()),
+        2 => act(out, state_of(&question[5..]), action_of(question)),
         3 => print::outcome(
+            out,
             b"rename",
             renamings::rename(state_of(&question[6..]), places_of(question)),
         ),
         4 => print::outcome(
+            out,
             b"representative",
             representatives::representative(state_of(&question[1..])),
         ),
-        5 => print::isr(b"weak", questions::weak_isr(state_of(&question[1..]))),
-        6 => print::isr(b"strong", questions::strong_isr(state_of(&question[1..]))),
-        7 => print::offer(questions::offer(state_of(&question[2..]), question[1])),
-        8 => write(state_of(&question[2..]), size(question[1])),
-        9 => read(question),
-        _ => print::unknown(),
+        5 => print::isr(out, b"weak", questions::weak_isr(state_of(&question[1..]))),
+        6 => print::isr(
+            out,
+            b"strong",
+            questions::strong_isr(state_of(&question[1..])),
+        ),
+        7 => print::offer(out, questions::offer(state_of(&question[2..]), question[1])),
+        8 => write(out, state_of(&question[2..]), size(question[1])),
+        9 => read(out, question),
+        _ => print::unknown(out),
     }
 }
 
-// Reads to the end of the input, and answers each question once it is whole. A proved loop has to end, so it counts its turns down,
-// from a number that no input uses up. The caller shows that what it lends has room for the longest question and no more.
-fn answer_all(question: &mut [u8])
+// Says on standard error which stream failed and why, and answers the exit status. Where that fails too, there is nowhere to say so.
+fn fail(rt: &impl Eprint, stream: &str, error: io::Error) -> ExitCode {
+    let _ = eprintln!(rt; "answers: {stream}: {error}");
+    ExitCode::FAILURE
+}
+
+// Reads to the end of the input, and answers each question once it is whole. A proved loop has to end, so it counts its turns, to a
+// number that no input reaches. The caller shows that what it lends has room for the longest question and no more.
+fn answer_all(rt: &(impl Print + Eprint), input: &mut impl Read, question: &mut [u8]) -> ExitCode
     requires { length question.old ≡ 257 }
 {
     let mut at: usize = 0;
     let mut end: usize = 2;
-    let mut turns = u64::MAX;
-    while turns > 0 {
-        let got = libc::read(STDIN_FILENO, &mut question[at..end]);
-        if got < 0 {
-            os::fail(b"answers: standard input");
-            return;
-        }
-        let more = io::count(got, &question[at..end]);
+    for _ in 0..u64::MAX {
+        let more = match input.read(&mut question[at..end]) {
+            Ok(more) => more,
+            Err(error) => return fail(rt, "standard input", error),
+        };
         if more == 0 {
-            return;
+            return ExitCode::SUCCESS;
         }
         at = at + more;
         end = question_length(question, at);
         if end <= at {
-            if !answer(question) {
-                os::fail(b"answers: standard output");
-                return;
+            if let Err(error) = answer(rt, question) {
+                return fail(rt, "standard output", error);
             }
             at = 0;
             end = 2;
         }
-        turns = turns - 1;
     }
+    ExitCode::SUCCESS
 }
 
-fn main() {
+fn main(rt: HostRuntime) -> ExitCode {
     let mut question = [0u8; LONGEST];
-    answer_all(&mut question);
+    answer_all(&rt, &mut rt.stdin(), &mut question)
 }

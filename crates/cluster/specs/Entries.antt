@@ -3,7 +3,8 @@ use Rattle.std.specs.Prelude.{ℕ, ◌<◌, ◌≡◌, true, List, ◌↔◌, re
 use Rattle.std.proofs.Common.{sym, ◌∙◌, ap, arith}
 use Rattle.logic.specs.Tests.{bool_ext}
 use Rattle.logic.specs.Concat.{concat_below}
-use Rattle.logic.specs.Entries.{Entry, agree_all, In, Storable, Alike, agree_alike, in_concat, in_some}
+use Rattle.logic.specs.Entries.{Entry, agree_all, In, Storable, Alike}
+use Rattle.logic.proofs.EntriesLaws.{agree_alike, in_concat, in_some}
 use Rattle.replica.specs.declared.Replica.{Replica}
 use Rattle.replica.specs.Replica.{record_at}
 use Rattle.replica.specs.LogLaws.{Agree}

@@ -6,7 +6,8 @@ use Rattle.std.proofs.Common.{sym, ◌∙◌, arith}
 use Rattle.std.proofs.Math.Bool.{true, false}
 use Rattle.logic.specs.Concat.{concat_below}
 use Rattle.logic.specs.Tests.{all_below, all_fails, every, every_at, every_none, every_and, every_fails, and_left, and_right, and_both, bool_ext}
-use Rattle.logic.specs.Entries.{Passed, agree_all, note_all, passing_fails}
+use Rattle.logic.specs.Entries.{Passed, agree_all, note_all}
+use Rattle.logic.proofs.EntriesLaws.{passing_fails}
 use Rattle.replica.specs.Log.{log_in_use}
 use Rattle.replica.specs.Entries.{LogMet}
 use Rattle.cluster.specs.declared.State.{State}

@@ -18,7 +18,8 @@ use Rattle.cluster.specs.Outcome.{answer, as_given}
 use Rattle.cluster.specs.Rules.{rule_tests, rules, state_refusal, state_numbers}
 use Rattle.cluster.specs.RuleLaws.{met_refusal, broken_refusal, broken_first}
 use Rattle.cluster.specs.Act.{refusal, act}
-use Rattle.actions.specs.Answers.{action_numbers, act_number, act_unmet, met_listed}
+use Rattle.actions.specs.Answers.{action_numbers, act_number, act_unmet}
+use Rattle.actions.proofs.ActionNumbers.{met_listed}
 use Rattle.questions.specs.declared.Property.{Property}
 use Rattle.questions.specs.declared.OfferAnswer.{OfferAnswer}
 use Rattle.questions.specs.Isr.{ask_isr}

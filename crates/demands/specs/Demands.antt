@@ -47,8 +47,10 @@ use Rattle.cluster.specs.FreshLaws.{fresh_numbers, fresh_listed, fresh_refused_z
 use Rattle.cluster.specs.Actions.{replica_presumes_leadership}
 use Rattle.cluster.specs.Act.{action_answer, without_member, refused_on, act}
 use Rattle.actions.specs.Kept.{Kept, act_kept}
-use Rattle.actions.specs.MemberNamed.{test_number, SmallestMember, member-named, member_none}
-use Rattle.actions.specs.Answers.{action_numbers, act_number, act_given, act_unmet, refusal_listed}
+use Rattle.actions.specs.MemberNamed.{test_number, SmallestMember, member_none}
+use Rattle.actions.proofs.NamedMember.{member-named}
+use Rattle.actions.specs.Answers.{action_numbers, act_number, act_given, act_unmet}
+use Rattle.actions.proofs.ActionNumbers.{refusal_listed}
 use Rattle.questions.specs.declared.Property.{Property}
 use Rattle.questions.specs.Isr.{isr_refused, ask_isr}
 use Rattle.questions.specs.IsrTheorems.{isr_broken, isr_listed, isr_number}
@@ -72,16 +74,16 @@ use Rattle.representatives.specs.RepresentativeTheorems.{is_renamed, equal_or_gr
 use Rattle.published.specs.KafkaReplication.{ModelState, ◌is_in◌, ReplicaLog·HasOffset, ReplicaPresumesLeadership, ReplicaIsFollowing, Init, WeakIsr, StrongIsr, Next}
 use Rattle.published.specs.Meaning.{constants_of, meaning, Means}
 use Rattle.published.specs.Choices.{Choice}
-use Rattle.published.specs.Engine.{action_is_published}
-use Rattle.published.specs.Advance.{advance, advance_not_following, advance_lacks_offset, advance_refused}
-use Rattle.published.specs.Behaviours.{next_is_accepted}
+use Rattle.published.proofs.Engine.{action_is_published}
+use Rattle.published.proofs.Advance.{advance, advance_not_following, advance_lacks_offset, advance_refused}
+use Rattle.published.proofs.Behaviours.{next_is_accepted}
 use Rattle.published.specs.Equality.{same_model_refl}
 use Rattle.published.specs.OneToOne.{one_to_one}
 use Rattle.runs.specs.Run.{configuration_width, run_record_width, longest_run, configuration_mark, action_mark, action_in, opening, unopened, judge}
 use Rattle.runs.specs.RunRecordLaws.{run_record_whole}
 use Rattle.runs.specs.Opening.{first_state, judge_unopened}
 use Rattle.verdicts.specs.RenameRun.{rename_run, RenamesRun, rename_verdict}
-use Rattle.verdicts.specs.RunRenamed.{run_renamed}
+use Rattle.verdicts.proofs.RunRenamed.{run_renamed}
 use Rattle.verdicts.specs.RunBehaviour.{next_run_record, state_at, constants_in, Joins, opening_is, opens_fresh, run_is_behaviour, run_record_joins, refused_not_allowed, reached}
 use Rattle.verdicts.specs.RunProperties.{weak_never, weak_first, strong_never, strong_first, exposed_run_at, exposed_run_by}
 use Rattle.verdicts.specs.VerdictTheorems.{StopsAt, refused_run_record, run_numbers, run_listed, run_breaks_none, accepted_fills, accepted_at, refused_by}

@@ -10,10 +10,5 @@ pub mod Reading
 pub mod Properties
 pub mod Changes
 pub mod Controller
-pub mod Requests
 pub mod Logs
 pub mod Leading
-pub mod Engine
-pub mod Enabled
-pub mod Behaviours
-pub mod Advance

@@ -7,7 +7,8 @@ use Rattle.std.proofs.Math.Option.{Option, none, or_else}
 use native.Mathlib.Omega.{arith}
 use Rattle.std.proofs.Math.Dec.{eqb}
 use Rattle.std.proofs.Common.{eqb-true}
-use Rattle.logic.specs.Search.{first_below, passing, passing_no, first_third}
+use Rattle.logic.specs.Search.{first_below, passing, first_third}
+use Rattle.logic.proofs.SearchLaws.{passing_no}
 use Rattle.parts.specs.Isr.{member}
 use Rattle.parts.specs.Leader.{names}
 use Rattle.replica.specs.LogLaws.{hold_same_record_iff}

@@ -25,7 +25,8 @@ use Rattle.std.proofs.Math.Option.{Option, none, some}
 use borrow.Author.Tests.{not-true, not-false}
 use Rattle.logic.specs.Tests.{and_left, and_right, and_both, true_false}
 use Rattle.logic.specs.Refuse.{by_accepted, by_refused, by_number, listed}
-use Rattle.logic.specs.Search.{Triple, triple, Before, first_triple, first_triple_none, first_triple_some, first_triple_cong}
+use Rattle.logic.specs.Search.{Triple, triple, Before, first_triple}
+use Rattle.logic.proofs.SearchLaws.{first_triple_none, first_triple_some, first_triple_cong}
 use Rattle.parts.specs.declared.Leader.TheVariants.{Some}
 use Rattle.parts.specs.Refusal.{accepted}
 use Rattle.parts.specs.Isr.{member}

@@ -6,7 +6,5 @@ pub mod OfferTheorems
 pub mod Exposed
 pub mod IsrLaws
 pub mod Doubt
-pub mod DoubtLaws
-pub mod DoubtTheorems
 pub mod DoubtCode
 pub mod DoubtExample

@@ -3,7 +3,8 @@ use Rattle.std.specs.Prelude.{ℕ, ◌+◌, ◌≤◌, ◌<◌, ◌≡◌}
 use Rattle.std.proofs.Math.Path.{refl, ap}
 use Rattle.std.proofs.Common.{◌∙◌, arith}
 use Rattle.std.proofs.Math.Option.{Option, none, some}
-use Rattle.logic.specs.Search.{Triple, first_below, first_found, first_more, first_done}
+use Rattle.logic.specs.Search.{Triple, first_below}
+use Rattle.logic.proofs.SearchLaws.{first_found, first_more, first_done}
 use Rattle.parts.specs.Refusal.{accepted, no_offer}
 use Rattle.questions.specs.Offer.{offer_answer, offer_of}
 

@@ -23,7 +23,8 @@ use Rattle.std.proofs.Math.Option.{Option, none, some}
 use borrow.Author.Tests.{ltb-true, ltb-false, eqb-true, eq-eqb}
 use Rattle.logic.specs.Tests.{every, every_at, true_false}
 use Rattle.logic.specs.Refuse.{refuse, refuse_zero, first_refusal, first_yes, first_no, by_refusal, by_refused, listed, listed_within, listed_not}
-use Rattle.logic.specs.Search.{Triple, triple, Before, first_triple_none, first_triple_some}
+use Rattle.logic.specs.Search.{Triple, triple, Before}
+use Rattle.logic.proofs.SearchLaws.{first_triple_none, first_triple_some}
 use Rattle.parts.specs.Refusal.{accepted, unknown_kind, no_offer}
 use Rattle.cluster.specs.declared.State.{State}
 use Rattle.cluster.specs.declared.Action.{Action}

@@ -15,7 +15,8 @@ use Rattle.cluster.specs.Actions.{passes_test}
 use Rattle.cluster.specs.Act.{kind_of, uses, action_answer, without_member, act}
 use Rattle.actions.specs.Kept.{step_kept, step_is_act}
 use Rattle.actions.specs.Answers.{act_same}
-use Rattle.actions.specs.MemberNamed.{test_number, SmallestMember, isr_tidy, passes_tidy, named_kind, named_below, member-named}
+use Rattle.actions.specs.MemberNamed.{test_number, SmallestMember, isr_tidy, passes_tidy, named_kind, named_below}
+use Rattle.actions.proofs.NamedMember.{member-named}
 use Rattle.questions.specs.declared.Property.{Property}
 use Rattle.questions.specs.declared.IsrAnswer.{IsrAnswer}
 use Rattle.questions.specs.Isr.{ask_isr}

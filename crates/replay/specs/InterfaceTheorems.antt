@@ -15,7 +15,8 @@ use Rattle.cluster.specs.declared.MemberTest.TheVariants.{IsFollowing, HasOffset
 use Rattle.cluster.specs.State.{tidy}
 use Rattle.cluster.specs.Rules.{rules}
 use Rattle.cluster.specs.Act.{action_of, act}
-use Rattle.actions.specs.MemberNamed.{test_number, SmallestMember, member-named, member_none}
+use Rattle.actions.specs.MemberNamed.{test_number, SmallestMember, member_none}
+use Rattle.actions.proofs.NamedMember.{member-named}
 use Rattle.flat.specs.Flat.{flat_width, flat, state_of_flat}
 use Rattle.flat.specs.FlatLaws.{flat-width}
 use Rattle.flat.specs.FlatTheorems.{answer_back}

@@ -1,15 +1,10 @@
 // Standard input, read to its end.
-ghost use Rattle.std.specs.Prelude.{◌≡◌, length};
-ghost use Rattle.io.specs.Counts.{IsPrefixLen};
+ghost use Rattle.std.specs.Prelude.{◌≡◌, length, take, IfOk, IfSome, OnOk};
+ghost use Rattle.std.specs.Io.{ReadsAtMost};
+ghost use Rattle.std.specs.Io.KnownBytes.{IsAtEnd};
 
-use libc::STDIN_FILENO;
-
-// What reading came to: whether the input ended, and did not fail; how many of its bytes were kept.
-#[derive(Clone, Copy)]
-pub(crate) struct Read {
-    pub(crate) ended: bool,
-    pub(crate) length: usize,
-}
+use std::io;
+use std::io::Read;
 
 // Room for one byte more than the longest run, so that the judge itself sees that a run is too long.
 pub(crate) fn room() -> [u8; runs::LONGEST_RUN + 1]
@@ -18,53 +13,21 @@ pub(crate) fn room() -> [u8; runs::LONGEST_RUN + 1]
     [0; runs::LONGEST_RUN + 1]
 }
 
-// One read whose bytes are not kept.
-fn skip_some() -> isize {
-    let mut space = io::large_buffer();
-    libc::read(STDIN_FILENO, &mut space)
-}
-
-// Reads on to the end of the input and keeps nothing. A proved loop has to end, so it counts its turns down, from a number that
-// no input uses up. Answers whether the input ended.
-fn skip_rest() -> bool {
-    let mut turns = u64::MAX;
-    while turns > 0 {
-        let got = skip_some();
-        if got < 0 {
-            return false;
-        }
-        if got == 0 {
-            return true;
-        }
-        turns = turns - 1;
-    }
-    false
-}
-
-// Reads the whole input, and keeps its first bytes, as many as there is room for.
-pub(crate) fn read_all(kept: &mut [u8]) -> Read
-    ensures { IsPrefixLen result.length kept.new }
+// Reads the whole input, keeps its first bytes, as many as there is room for, and answers how many these are. What comes behind them
+// is read too, so that what writes the input is not stopped.
+pub(crate) fn read_all<R: Read>(input: &mut R, kept: &mut [u8]) -> io::Result<usize>
+    ensures bound { ReadsAtMost result kept.new }
+    ensures first { IfOk result (λ n. IfSome (R.remaining input.old) (λ bytes. take n kept.new ≡ take (length kept.old) bytes)) }
+    ensures end { OnOk result (IsAtEnd (R.remaining input.new)) }
 {
     let mut at: usize = 0;
     while at < kept.len() {
-        let got = libc::read(STDIN_FILENO, &mut kept[at..]);
-        if got < 0 {
-            return Read {
-                ended: false,
-                length: 0,
-            };
-        }
-        let more = io::count(got, &kept[at..]);
+        let more = input.read(&mut kept[at..])?;
         if more == 0 {
-            return Read {
-                ended: true,
-                length: at,
-            };
+            return Ok(at);
         }
         at = at + more;
     }
-    Read {
-        ended: skip_rest(),
-        length: at,
-    }
+    io::copy(input, &mut io::sink())?;
+    Ok(at)
 }

@@ -4,15 +4,23 @@
 mod input;
 mod print;
 
-fn main() {
+use std::io;
+use std::process::ExitCode;
+
+// Says on standard error which stream failed and why, and answers the exit status. Where that fails too, there is nowhere to say so.
+fn fail(rt: &impl Eprint, stream: &str, error: io::Error) -> ExitCode {
+    let _ = eprintln!(rt; "runcheck: {stream}: {error}");
+    ExitCode::FAILURE
+}
+
+fn main(rt: HostRuntime) -> ExitCode {
     let mut kept = input::room();
-    let read = input::read_all(&mut kept);
-    if !read.ended {
-        os::fail(b"runcheck: standard input");
-        return;
-    }
-    let length = read.length;
-    if !print::verdict(runs::judge(&kept[..length])) {
-        os::fail(b"runcheck: standard output");
+    let length = match input::read_all(&mut rt.stdin(), &mut kept) {
+        Ok(length) => length,
+        Err(error) => return fail(&rt, "standard input", error),
+    };
+    match print::verdict(&rt, runs::judge(&kept[..length])) {
+        Ok(()) => ExitCode::SUCCESS,
+        Err(error) => fail(&rt, "standard output", error),
     }
 }

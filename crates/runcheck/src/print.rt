@@ -1,63 +1,37 @@
 // The verdict as seven lines of text.
-ghost use Rattle.std.specs.Prelude.{◌<◌};
-
 use cluster::State;
-use libc::STDOUT_FILENO;
 use parts::refusal::ACCEPTED;
 use runs::Verdict;
+use std::io;
 
-// One name, one space and one number. Answers whether all was written, as `hex`, `image` and `verdict` do.
-fn line(name: &[u8], number: usize) -> bool {
-    io::write_all(STDOUT_FILENO, name)
-        && io::write_all(STDOUT_FILENO, b" ")
-        && io::print_decimal(STDOUT_FILENO, number as u64)
-        && io::write_all(STDOUT_FILENO, b"\n")
-}
-
-// A hexadecimal digit, in capitals. The caller shows that the number has one digit.
-fn digit(n: u8) -> u8
-    requires { n < 16 }
-{
-    if n < 10 {
-        return b'0' + n;
+// Bytes in hexadecimal, two digits for each, in capitals.
+fn hex(out: &impl Print, bytes: &[u8]) -> io::Result<()> {
+    for byte in bytes {
+        print!(out; "{byte:02X}")?;
     }
-    b'A' + (n - 10)
-}
-
-// Bytes in hexadecimal, two digits for each.
-fn hex(bytes: &[u8]) -> bool {
-    let mut i: usize = 0;
-    while i < bytes.len() {
-        let b = bytes[i];
-        let pair = [digit(b / 16), digit(b % 16)];
-        if !io::write_all(STDOUT_FILENO, &pair) {
-            return false;
-        }
-        i = i + 1;
-    }
-    true
+    Ok(())
 }
 
 // The image of the state; `none` where there is none to write, as of the all-zero state.
-fn image(s: State) -> bool {
+fn image(out: &impl Print, s: State) -> io::Result<()> {
     let mut space = [0u8; images::LONGEST];
     let written = images::write_image(s, &mut space);
     let length = written.length;
     if written.refusal == ACCEPTED {
-        return hex(&space[..length]);
+        return hex(out, &space[..length]);
     }
-    io::write_all(STDOUT_FILENO, b"none")
+    print!(out; "none")
 }
 
 // The seven lines of a verdict.
-pub(crate) fn verdict(v: Verdict) -> bool {
-    line(b"accepted", v.tally.accepted)
-        && line(b"refusal", v.refusal as usize)
-        && line(b"at", v.at)
-        && line(b"weak", v.tally.weak)
-        && line(b"strong", v.tally.strong)
-        && line(b"exposed", v.tally.exposed as usize)
-        && io::write_all(STDOUT_FILENO, b"state ")
-        && image(v.state)
-        && io::write_all(STDOUT_FILENO, b"\n")
+pub(crate) fn verdict(out: &impl Print, v: Verdict) -> io::Result<()> {
+    println!(out; "accepted {}", v.tally.accepted)?;
+    println!(out; "refusal {}", v.refusal)?;
+    println!(out; "at {}", v.at)?;
+    println!(out; "weak {}", v.tally.weak)?;
+    println!(out; "strong {}", v.tally.strong)?;
+    println!(out; "exposed {}", v.tally.exposed)?;
+    print!(out; "state ")?;
+    image(out, v.state)?;
+    println!(out)
 }

@@ -38,7 +38,7 @@ use Rattle.cluster.specs.Act.{action_refusal, action_answer, accepted_with, effe
 use Rattle.questions.specs.declared.Property.TheVariants.{WeakIsr, StrongIsr}
 use Rattle.questions.specs.Exposed.{exposed}
 use Rattle.questions.specs.Doubt.{ReadsWithin, holds_after_action, exposes_more}
-use Rattle.questions.specs.DoubtTheorems.{reads_within, holds_after, exposes_no_more}
+use Rattle.questions.proofs.DoubtTheorems.{reads_within, holds_after, exposes_no_more}
 use Rattle.runs.specs.RunRecordLaws.{names_none}
 use Rattle.runs.specs.declared.Tally.{Tally}
 use Rattle.runs.specs.declared.Verdict.{Verdict}

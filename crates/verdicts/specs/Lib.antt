@@ -1,6 +1,4 @@
 pub mod RenameRun
-pub mod TraceRenamed
-pub mod RunRenamed
 pub mod RunBehaviour
 pub mod RunProperties
 pub mod VerdictTheorems

@@ -49,8 +49,8 @@ use Rattle.published.specs.KafkaReplication.{Constants, ModelState, FiniteBehavi
 use Rattle.published.specs.Meaning.{constants_of, meaning}
 use Rattle.published.specs.Equality.{same_model_refl}
 use Rattle.published.specs.Choices.{Choice}
-use Rattle.published.specs.Engine.{action_is_published}
-use Rattle.published.specs.Behaviours.{AllAccepted, states_after, sequence_is_behaviour}
+use Rattle.published.proofs.Engine.{action_is_published}
+use Rattle.published.proofs.Behaviours.{AllAccepted, states_after, sequence_is_behaviour}
 use Rattle.runs.specs.declared.Verdict.{Verdict}
 use Rattle.runs.specs.Run.{configuration_width, run_record_width, longest_run, configuration_mark, action_mark, mark_refusal, run_record_refusal, action_in, act_on, configuration_of, run_records_of, length_refusal, opening, Step, step_on, handed_back, states_in, Trace, trace_by, trace_from, last_of, judge}
 use Rattle.runs.specs.RunRecordLaws.{run_record_whole, whole_acts, accepted_whole, accepted_acts}

@@ -18,7 +18,7 @@ use Rattle.questions.specs.Exposed.{exposed, exposed_at, exposed_by}
 use Rattle.published.specs.KafkaReplication.{Constants, ModelState, WeakIsr, StrongIsr}
 use Rattle.published.specs.Meaning.{constants_of, meaning}
 use Rattle.published.specs.Properties.{weak_is_published, strong_is_published}
-use Rattle.published.specs.Behaviours.{states_after}
+use Rattle.published.proofs.Behaviours.{states_after}
 use Rattle.runs.specs.declared.Verdict.{Verdict}
 use Rattle.runs.specs.Run.{opening, weak_holds, strong_holds, judge}
 use Rattle.runs.specs.Opening.{first_state, opening_holds, opened}

@@ -6,7 +6,8 @@ use lib.Dec.{eqb}
 use Rattle.cluster.specs.ActLaws.{hw_small, replica_five}
 use Rattle.cluster.specs.Predicates.{rules_iff}
 use Rattle.cluster.specs.State.{replica_at}
-use Rattle.logic.specs.Search.{first_done, first_more, first_none, first_triple_found, first_second, first_triple, passing_no}
+use Rattle.logic.specs.Search.{first_second, first_triple}
+use Rattle.logic.proofs.SearchLaws.{first_done, first_more, first_none, first_triple_found, passing_no}
 use Rattle.parts.specs.Isr.{member}
 use Rattle.parts.specs.Leader.{names}
 use Rattle.questions.specs.Isr.{check_isr, differ_at, isr_answer, isr_answer_of, smallest_failure}

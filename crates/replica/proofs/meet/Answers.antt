@@ -1,4 +1,5 @@
-use Rattle.logic.specs.Entries.{entry, passed_new, passed_known}
+use Rattle.logic.specs.Entries.{entry}
+use Rattle.logic.proofs.EntriesLaws.{passed_new, passed_known}
 use Rattle.replica.proofs.meet.Goals as goal
 
 pub returns-then-found-eq0 : goal.returns-then-found-eq0

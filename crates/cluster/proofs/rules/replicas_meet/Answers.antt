@@ -3,7 +3,7 @@ use mathlib.Core.Path.{refl, sym, ◌∙◌}
 use native.Mathlib.Omega.{arith}
 use lib.ListN.{replicate}
 use Rattle.logic.specs.Tests.{all_none, all_more, all_done, all_fails, every_no, every_and, every_none, every_fails}
-use Rattle.logic.specs.Entries.{passing_start, passing_more, passing_end}
+use Rattle.logic.proofs.EntriesLaws.{passing_start, passing_more, passing_end}
 use Rattle.replica.specs.EntryLaws.{log_passes}
 use Rattle.cluster.specs.State.{next_leader_epoch_of, next_record_id_of, replica_in}
 use Rattle.cluster.specs.Rules.{replica_in_range_at, replica_meets_s5_at, rule5, rule6}

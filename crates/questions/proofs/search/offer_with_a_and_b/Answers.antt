@@ -2,7 +2,8 @@ use mathlib.Core.Bool.{false}
 use mathlib.Core.Path.{◌∙◌, ◌≡◌, ap, sym}
 use native.Mathlib.Omega.{arith}
 use borrow.Author.Tests.{eq-eqb, ne_eqb}
-use Rattle.logic.specs.Search.{first_found, first_more, first_none, first_third, passing_no, passing_yes}
+use Rattle.logic.specs.Search.{first_third}
+use Rattle.logic.proofs.SearchLaws.{first_found, first_more, first_none, passing_no, passing_yes}
 use Rattle.questions.specs.Offer.{is_accepted, offer_of}
 use Rattle.questions.specs.OfferLaws.{offer_done}
 use Rattle.questions.proofs.search.offer_with_a_and_b.Goals as goal

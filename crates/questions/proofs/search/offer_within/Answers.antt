@@ -1,6 +1,7 @@
 use mathlib.Core.Path.{◌∙◌, ap, sym}
 use native.Mathlib.Omega.{arith}
-use Rattle.logic.specs.Search.{first_none, first_triple}
+use Rattle.logic.specs.Search.{first_triple}
+use Rattle.logic.proofs.SearchLaws.{first_none}
 use Rattle.questions.specs.Offer.{smallest_accepted}
 use Rattle.questions.specs.OfferLaws.{offer_done, offer_found, offer_more}
 use Rattle.questions.specs.declared.OfferAnswer.{OfferAnswer}

@@ -1,7 +1,7 @@
 use mathlib.Core.Path.{sym, ◌∙◌}
 use native.Mathlib.Omega.{arith}
 use Rattle.logic.specs.Tests.{all_none, all_more, all_done, all_fails}
-use Rattle.logic.specs.Entries.{passing_start, passing_more, passing_fails, passing_end}
+use Rattle.logic.proofs.EntriesLaws.{passing_start, passing_more, passing_fails, passing_end}
 use Rattle.replica.specs.Log.{record_in_use_at, log_in_use}
 use Rattle.replica.specs.Entries.{entry_at, log_entries}
 use Rattle.replica.specs.EntryLaws.{log_unused, log_unlike, log_met}

@@ -47,7 +47,7 @@ use Rattle.questions.specs.IsrLaws.{below_cond, asked_of}
 use Rattle.questions.specs.IsrTheorems.{HoldSameRecord, Asked, Holds, hold_same_at_iff, asked_member, isr_says, isr_same}
 use Rattle.questions.specs.Exposed.{exposed, exposed_at, exposed_by}
 use Rattle.questions.specs.Doubt.{cut_doubt, InDoubt, ReadsWithin, doubt_after_action, agree_from, offsets_in_doubt, pair_agrees, leader_agrees, holds_in_doubt, holds_after_action, exposes_more}
-use Rattle.questions.specs.DoubtLaws.{Stays, NoMoreExposed, Asks, OnlyInDoubt, follower_in_doubt, kind_in_doubt, cut_exposed, kind_exposed, request_kept, hw_raised}
+use Rattle.questions.proofs.DoubtLaws.{Stays, NoMoreExposed, Asks, OnlyInDoubt, follower_in_doubt, kind_in_doubt, cut_exposed, kind_exposed, request_kept, hw_raised}
 
 -- the property holds of all that is in doubt
 abbrev pub HoldsInDoubt : Doubt → Property → State → Type 0

@@ -29,10 +29,10 @@ use Rattle.published.specs.KafkaReplication.{TypeOk, ModelState, Next, Steps, Fi
 use Rattle.published.specs.Meaning.{constants_of, meaning, Means}
 use Rattle.published.specs.Choices.{Choice}
 use Rattle.published.specs.Equality.{same_model_refl}
-use Rattle.published.specs.Engine.{engine_is_model}
+use Rattle.published.proofs.Engine.{engine_is_model}
 use Rattle.published.specs.Types.{type_ok_same, rules_type_ok}
 use Rattle.published.specs.Start.{fresh_init, init_is_fresh}
-use Rattle.published.specs.Enabled.{means_epochs, next_is_choice}
+use Rattle.published.proofs.Enabled.{means_epochs, next_is_choice}
 
 -- ---- sequences of actions
 -- actions accepted one after another, from s

@@ -29,7 +29,7 @@ use Rattle.published.specs.Equality.{same_model_refl}
 use Rattle.published.specs.Choices.{Choice}
 use Rattle.published.specs.OneToOne.{means_tidy}
 use Rattle.published.specs.Leading.{inc_not_following_iff, inc_lacks_offset_iff, inc_enabled_iff, inc_refused_iff}
-use Rattle.published.specs.Engine.{action_is_published}
+use Rattle.published.proofs.Engine.{action_is_published}
 
 -- the action of kind 7 of replica a
 abbrev pub advance : ℕ → Action

@@ -25,7 +25,7 @@ use Rattle.published.specs.KafkaReplication.{Constants, LeaderAndIsr, ModelState
 use Rattle.published.specs.Meaning.{constants_of, meaning, Means}
 use Rattle.published.specs.Choices.{SourceAction, SourceActionWith, UnusedZero, Choice}
 use Rattle.published.specs.Equality.{same_model_refl}
-use Rattle.published.specs.Engine.{action_is_published}
+use Rattle.published.proofs.Engine.{action_is_published}
 
 -- ---- a number of each kind; 9 is one of the numbers that are of no kind
 unfoldable pub kind_number : Kind → ℕ

@@ -38,7 +38,7 @@ use Rattle.published.specs.Equality.{same_model_refl}
 use Rattle.published.specs.Choices.{SourceActionWith, UnusedZero, Choice}
 use Rattle.published.specs.OneToOne.{means_tidy}
 use Rattle.published.specs.Controller.{controller_shrink_iff, elect_iff}
-use Rattle.published.specs.Requests.{become_leader_iff, become_follower_iff}
+use Rattle.published.proofs.Requests.{become_leader_iff, become_follower_iff}
 use Rattle.published.specs.Logs.{write_iff, replicate_iff}
 use Rattle.published.specs.Leading.{leader_shrink_iff, leader_expand_iff, inc_iff}
 

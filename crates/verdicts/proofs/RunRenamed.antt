@@ -34,7 +34,7 @@ use Rattle.renamings.specs.Rename.{rename_operand, rename_action, renamed, Renam
 use Rattle.renamings.specs.Places.{renaming_iff}
 use Rattle.renamings.specs.FreshRenamed.{zero_renamed, fresh_renamed}
 use Rattle.verdicts.specs.RenameRun.{with_operands, rename_run_record, replicas_of, renamed_run_records, rename_run, RenamesRun, rename_verdict}
-use Rattle.verdicts.specs.TraceRenamed.{run_record_length, verdict_renamed}
+use Rattle.verdicts.proofs.TraceRenamed.{run_record_length, verdict_renamed}
 
 -- ---- a renamed run
 module _ (run p : List ℕ) where

@@ -1,0 +1,62 @@
+-- Which numbers an action may give beside 0: each is in the list, of an action on a state that meets the rules, and on any state.
+-- Assumes nothing.
+use Rattle.std.specs.Prelude.{ℕ, zero, suc, ◌≡◌, Bool, true, false, List, [], ◌∷◌, ◌++◌, map}
+use Rattle.std.proofs.Math.Path.{refl, sym, ap₂}
+use Rattle.std.proofs.Common.{◌∙◌, ap}
+use Rattle.logic.specs.Tests.{every}
+use Rattle.logic.specs.Refuse.{refuse, first_refusal, by_refusal, by_other, listed, listed_refuse, listed_first, listed_within}
+use Rattle.parts.specs.declared.Leader.{Leader}
+use Rattle.parts.specs.declared.Leader.TheVariants.{None, Some}
+use Rattle.parts.specs.Refusal.{accepted, unknown_kind, bad_operand, no_epoch_left, not_in_isr, already_so, no_request, wrong_leader, epoch_not_higher, not_presuming, no_id_left, log_full, not_true_leader, same_replica, caught_up, not_caught_up, not_following, nothing_to_replicate, member_not_following, member_lacks_offset}
+use Rattle.cluster.specs.declared.State.{State}
+use Rattle.cluster.specs.declared.Action.{Action}
+use Rattle.cluster.specs.declared.ActionAnswer.{ActionAnswer}
+use Rattle.cluster.specs.declared.Kind.{Kind}
+use Rattle.cluster.specs.declared.Kind.TheVariants.{ControllerShrinkIsr, ControllerElectLeader, BecomeLeader, BecomeFollower, LeaderWrite, LeaderShrinkIsr, LeaderExpandIsr, LeaderIncHighWatermark, FollowerReplicate, Unknown}
+use Rattle.cluster.specs.State.{request_at, Same, tidy}
+use Rattle.cluster.specs.Rules.{rules, state_refusal, state_numbers}
+use Rattle.cluster.specs.RuleLaws.{state_listed, broken_refusal}
+use Rattle.cluster.specs.Equality.{same_refl, same_iff_tidy}
+use Rattle.cluster.specs.Unused.{state_refusal_same}
+use Rattle.cluster.specs.Actions.{controller_shrink_isr_refusal, controller_elect_leader_refusal, leader_refusal, become_leader_refusal, become_follower_refusal, leader_write_refusal, leader_shrink_isr_refusal, leader_expand_isr_refusal, leader_inc_high_watermark_refusal, member_named, follower_replicate_refusal}
+use Rattle.cluster.specs.Act.{kind_of, table_refusal, action_refusal, effect, action_answer, accepted_with, refused_on, answer_by, refusal, act}
+use Rattle.cluster.specs.ActLaws.{answer_number, answer_zero, answer_other, refusal_of_met, act_broken}
+use Rattle.actions.specs.Answers.{action_numbers, row_numbers, table_listed}
+
+-- each row is within the list of all
+row_within : (kind : Kind) → every (map (listed (accepted ∷ action_numbers)) (accepted ∷ row_numbers kind)) ≡ true
+unfolding listed every row_numbers
+row_within ControllerShrinkIsr = refl
+row_within ControllerElectLeader = refl
+row_within BecomeLeader = refl
+row_within BecomeFollower = refl
+row_within LeaderWrite = refl
+row_within LeaderShrinkIsr = refl
+row_within LeaderExpandIsr = refl
+row_within LeaderIncHighWatermark = refl
+row_within FollowerReplicate = refl
+row_within Unknown = refl
+
+-- of an action on a state that meets the rules and is tidy
+action_listed : (s : State) (action : Action) → listed (accepted ∷ action_numbers) (action_refusal s action) ≡ true
+unfolding action_refusal listed
+action_listed s action =
+    let kind = kind_of action.kind in
+    let listed_by = listed_refuse (accepted ∷ action_numbers) in
+    listed_by _ _ _ refl
+    (listed_by _ _ _ refl
+    (listed_within (accepted ∷ row_numbers kind) (accepted ∷ action_numbers) (table_refusal kind s action.a action.b action.e) (row_within kind)
+    (table_listed s kind action.a action.b action.e)))
+
+-- of one on a state that meets the rules
+pub met_listed : (s : State) (action : Action) → rules s ≡ true → listed (accepted ∷ action_numbers) (refusal s action) ≡ true
+met_listed s action h = ap (listed (accepted ∷ action_numbers)) (sym (refusal_of_met s action h)) ∙ action_listed (tidy s) action
+
+-- and of one on any state
+pub refusal_listed : (s : State) (action : Action) → listed (accepted ∷ state_numbers ++ action_numbers) (refusal s action) ≡ true
+unfolding refusal listed every
+refusal_listed s action =
+    let all : List ℕ = accepted ∷ state_numbers ++ action_numbers in
+    listed_first all (state_refusal s) (action_refusal (tidy s) action)
+    (listed_within (accepted ∷ state_numbers) all (state_refusal s) refl (state_listed s))
+    (listed_within (accepted ∷ action_numbers) all (action_refusal (tidy s) action) refl (action_listed (tidy s) action))

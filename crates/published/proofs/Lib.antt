@@ -1,0 +1,5 @@
+pub mod Requests
+pub mod Enabled
+pub mod Engine
+pub mod Behaviours
+pub mod Advance

@@ -1,0 +1,2 @@
+pub mod TraceRenamed
+pub mod RunRenamed
