@@ -1,4 +1,4 @@
-/* The C interface of the proved library: link libreplay.a, which `rt staticlib replay` writes to target/staticlib.
+/* The C interface of the proved library: link libreplay.a, which tools/build replay writes to target/staticlib.
  *
  * A slice is a pointer and its length. What the caller owes, and nothing checks: each pointer is good for its length (for reading,
  * and `out` for writing), and `out` overlaps no other argument. A length of 0 asks nothing of its pointer. Beyond that the caller
