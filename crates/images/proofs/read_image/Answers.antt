@@ -5,10 +5,12 @@ use Rattle.images.specs.Layout.{layout_refusal}
 use Rattle.images.specs.ReadLaws.{read_refused, read_met, read_unmet}
 use Rattle.parts.specs.Bytes.{Bytes}
 use Rattle.images.proofs.read_image.Goals as goal
+use Rattle.images.proofs.read_image.Lts as place
 
 -- the numbers of a slice are bytes, so the theorems on bytes that are read speak of every slice that this function takes
-pub slice-bytes : (c : goal.After-refused) → Bytes c.args.bytes.now
-slice-bytes c = record { byte = λ i. (c.type_inv.bytes i).fits }
+pub slice-bytes : (claims : place.Claims) (pre : place.Pre-type) (post : place.Post-type) (c : place.After-shared_slice_known claims pre post)
+    → Bytes c.args.bytes.now
+slice-bytes claims pre post c = record { byte = λ i. (c.shared_slice_known-1.given i).fits }
 
 pub returns-then-refusal-ne-ACCEPTED : goal.returns-then-refusal-ne-ACCEPTED
 returns-then-refusal-ne-ACCEPTED c = c.refused.ensures ∙ read_refused c.args.bytes.now _ c.layout_refusal-refusal.ensures c.if-refusal-ne-ACCEPTED.true
