@@ -1,7 +1,7 @@
 -- The member that an action's answer names: beside 48 and 49 the smallest member of a's ISR with that fault
 -- (proofs/NamedMember.antt), 0 beside every other number. Assumes nothing.
 --
---   test_number test                 the number that says that some member does not pass the test
+--   test_number test                the number that says that some member does not pass the test
 --   not_following_iff               kind 7 gives 48 exactly where a presumes and some member does not follow it
 --   lacks_offset_iff                it gives 49 exactly where a presumes, all members follow it and some member lacks the offset
 --   SmallestMember test s a m       m is in a's ISR and does not pass the test, and no smaller member is so

@@ -1,29 +1,29 @@
 -- The nine actions: for each kind its refusals, tried in the order written, and its effect. Operators of the source keep
 -- their names; a, b and e are the operands of the table. Assumes nothing.
 --
---   replica_presumes_leadership s r         the leader of r is r itself
---   replica_is_following s f l              the leader of f is l
---   is_true_leader s l                      l presumes, the quorum names it, and its epoch is the quorum's
---   is_follower_caught_up s l f n            the leader of f is l, and the end of f is at least n
---   epochs_used_up s, request_missing s e    the next epoch is X+1; there is no request of epoch e
---   epoch_not_above s i e                   e is not above the epoch of replica i
---   controller_shrink_isr_refusal s a        kind 0, controller shrink: its refusal, or 0. Every kind has one so named
---   controller_shrink_isr s a               its effect
---   controller_elect_leader s a             kind 1, elect: the effect, as in all that follow
---   leader_refusal, lead_by                 refusal and effect of kind 2 by the leader that the request names
---   become_leader s e                      kind 2, become leader
---   become_follower_at s a e offset         a takes request e; where that names a leader, a's log is cut to the offset; hw to at most it
---   become_follower_and_truncate_to_hw s a e   kind 3, become follower: the offset is a's hw. The refusal is become_follower_refusal
---   next_record s a, leader_write s a       the record that a writes; kind 4, write
---   quorum_update_leader_and_isr s l isr      the ISR put into the leader l and into the quorum, as kinds 5 and 6 do
---   leader_shrink_isr, leader_expand_isr      kinds 5 and 6, leader shrink and leader expand
---   passes_test test s a m                 m has a as leader, or has the offset of a's hw, by which of the two is asked
---   member_passes test s a m               m passes it, if it is in a's ISR
---   members_pass test s a                  every member of a's ISR passes it
---   first_not_passing test s a              the smallest member of a's ISR that does not; R where each does
---   leader_inc_high_watermark s a            kind 7, advance
---   member_named number s a                the member of a's ISR that an answer with this number names
---   follower_replicate s a b               kind 8, replicate
+--   replica_presumes_leadership s r       the leader of r is r itself
+--   replica_is_following s f l            the leader of f is l
+--   is_true_leader s l                    l presumes, the quorum names it, and its epoch is the quorum's
+--   is_follower_caught_up s l f n         the leader of f is l, and the end of f is at least n
+--   epochs_used_up s, request_missing s e the next epoch is X+1; there is no request of epoch e
+--   epoch_not_above s i e                 e is not above the epoch of replica i
+--   controller_shrink_isr_refusal s a     kind 0, controller shrink: its refusal, or 0. Every kind has one so named
+--   controller_shrink_isr s a             its effect
+--   controller_elect_leader s a           kind 1, elect: the effect, as in all that follow
+--   leader_refusal, lead_by               refusal and effect of kind 2 by the leader that the request names
+--   become_leader s e                     kind 2, become leader
+--   become_follower_at s a e offset       a takes request e; where that names a leader, a's log is cut to the offset; hw to at most it
+--   become_follower_and_truncate_to_hw s a e  kind 3, become follower: the offset is a's hw. The refusal is become_follower_refusal
+--   next_record s a, leader_write s a     the record that a writes; kind 4, write
+--   quorum_update_leader_and_isr s l isr  the ISR put into the leader l and into the quorum, as kinds 5 and 6 do
+--   leader_shrink_isr, leader_expand_isr  kinds 5 and 6, leader shrink and leader expand
+--   passes_test test s a m                m has a as leader, or has the offset of a's hw, by which of the two is asked
+--   member_passes test s a m              m passes it, if it is in a's ISR
+--   members_pass test s a                 every member of a's ISR passes it
+--   first_not_passing test s a            the smallest member of a's ISR that does not; R where each does
+--   leader_inc_high_watermark s a         kind 7, advance
+--   member_named number s a               the member of a's ISR that an answer with this number names
+--   follower_replicate s a b              kind 8, replicate
 use Rattle.std.specs.Prelude.{ℕ, ◌+◌, min, Bool, true, false, not, ◌&&◌, ◌||◌, cond, List, [], ◌∷◌, eqb, ltb, leb, pos}
 use Rattle.logic.specs.Tests.{all_below, every, first_fails}
 use Rattle.logic.specs.Refuse.{refuse}

@@ -6,7 +6,7 @@
 --   fresh_rules                   where the configuration is in range, it meets S1 to S7
 --   zero_tidy                     the all-zero state is tidy
 --   fresh_in, fresh_out           the answer: the fresh state of a configuration in range, and 22 with zeros for any other
---   fresh_numbers, fresh_listed    the numbers that it gives beside 0, and that it gives no other
+--   fresh_numbers, fresh_listed   the numbers that it gives beside 0, and that it gives no other
 --   fresh_accepted                where the answer is 0, the configuration is in range, and the state is its fresh state
 --   fresh_refused_zero            where the answer is not 0, it is 22, and the state is all zeros
 --   fresh_answer_tidy             the state that goes with the answer is tidy, for every configuration

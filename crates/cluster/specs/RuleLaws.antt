@@ -1,7 +1,7 @@
 -- What the tests of the rules say, case by case. Assumes nothing.
 --
 --   Ranges c, ranges_of                   the ranges of R, L, M and X, and that the test says so
---   Sizes c next_epoch next_id, sizes_of    what S1 says, and that the test says so
+--   Sizes c next_epoch next_id, sizes_of  what S1 says, and that the test says so
 --   bounded_of                            where S1 holds, the counts are within the arrays
 --   end_in_range, logs_bounded_of         where S2 holds too, so are the ends of logs
 --   quorum_start, quorum_later            S3 at the start, and after a request

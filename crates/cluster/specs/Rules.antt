@@ -2,18 +2,18 @@
 -- A rule takes only the fields that it reads; n is R, the number of replicas. Assumes nothing.
 --
 --   between low high n                   n is from low to high
---   inRange c                            R, L, M and X of the configuration are in range
---   leader_and_isr_in_range n leader isr     the leader is none or below n, and the ISR within n replicas
---   replica_in_range c p                   S2 of one replica
---   quorum_matches_request                 the quorum has the leader, and at the start the ISR, that S3 asks of it
---   replica_matches_request                the first two sentences of S5: the epoch of a replica, and its leader and ISR by it
---   replica_meets_s5 next requests p i     S5 of the replica p named i
---   agrees_with_all n replicas p           S7 of the log of p and every log
+--   in_range c                           R, L, M and X of the configuration are in range
+--   leader_and_isr_in_range n leader isr the leader is none or below n, and the ISR within n replicas
+--   replica_in_range c p                 S2 of one replica
+--   quorum_matches_request               the quorum has the leader, and at the start the ISR, that S3 asks of it
+--   replica_matches_request              the first two sentences of S5: the epoch of a replica, and its leader and ISR by it
+--   replica_meets_s5 next requests p i   S5 of the replica p named i
+--   agrees_with_all n replicas p         S7 of the log of p and every log
 --   rule1 .. rule7                       S1 to S7, each over the fields that it reads
---   rule_tests s                          the seven of a state, in their order
+--   rule_tests s                         the seven of a state, in their order
 --   rules s                              the state meets S1 to S7
---   state_numbers                         the number of each rule, 41 to 47, in their order
---   state_refusal s                       the refusal of a state: the number of the first rule that it breaks; 0 where it breaks none
+--   state_numbers                        the number of each rule, 41 to 47, in their order
+--   state_refusal s                      the refusal of a state: the number of the first rule that it breaks; 0 where it breaks none
 --   Bounded s, LogsBounded s             the counts, and the ends of logs, are within the arrays
 use Rattle.std.specs.Prelude.{ℕ, zero, suc, ◌+◌, ◌≤◌, ◌<◌, Bool, false, not, ◌&&◌, ◌||◌, List, [], ◌∷◌, eqb, ltb, leb, ℤ, pos, negsuc}
 use Rattle.logic.specs.Tests.{all_below, every}

@@ -2,23 +2,23 @@
 -- "Unused room (past a log's end, past R, requests not sent) is no part of a state: equality ignores it, and every state
 -- that is worked out or read has zeros there (a zeroed leader is none)." Assumes nothing.
 --
---   replica_count_of c, log_size_of c             R and L of a configuration
---   max_records_of c, max_leader_epoch_of c        M and X
---   limits_at at bs, limits_of bs           R, L, M and X as four bytes: from a place on, and behind a mark
---   next_leader_epoch_of s, next_record_id_of s     the next epoch and the next record id
---   zero_request                           a request of zeros: what stands where none was sent
---   request_in requests e, request_at s e   the request of epoch e, in an array and in a state
---   replica_in replicas i, replica_at s i   the replica named i, in an array and in a state
---   state_of                               the state of its six fields
---   with_requests s l, with_replicas s l    the state with another array
---   with_replica s i p                     the state with p as replica i
---   with_quorum_isr s isr                   the state with another ISR of the quorum
---   with_next_record_id s n                  the state with another next record id
---   controller_update_isr s leader isr      the state with a new quorum at the next epoch, its request, and the next epoch raised by 1
+--   replica_count_of c, log_size_of c     R and L of a configuration
+--   max_records_of c, max_leader_epoch_of c  M and X
+--   limits_at at bs, limits_of bs         R, L, M and X as four bytes: from a place on, and behind a mark
+--   next_leader_epoch_of s, next_record_id_of s  the next epoch and the next record id
+--   zero_request                          a request of zeros: what stands where none was sent
+--   request_in requests e, request_at s e the request of epoch e, in an array and in a state
+--   replica_in replicas i, replica_at s i the replica named i, in an array and in a state
+--   state_of                              the state of its six fields
+--   with_requests s l, with_replicas s l  the state with another array
+--   with_replica s i p                    the state with p as replica i
+--   with_quorum_isr s isr                 the state with another ISR of the quorum
+--   with_next_record_id s n               the state with another next record id
+--   controller_update_isr s leader isr    the state with a new quorum at the next epoch, its request, and the next epoch raised by 1
 --   Same s t                              the two states are equal: unused room does not count
 --   tidy_request_at s e, tidy_replica_at s i  a request and a replica of the tidy state
 --   tidy s                                the state with zeros in its unused room
---   zero_limits, zero_quorum, zero_state     all zeros
+--   zero_limits, zero_quorum, zero_state  all zeros
 use Rattle.std.specs.Prelude.{ℕ, ◌+◌, ◌<◌, ◌≡◌, cond, List, ltb, pos, get_or, set, replicate}
 use Rattle.logic.specs.Table.{table}
 use Rattle.parts.specs.declared.Leader.{Leader}

@@ -1,5 +1,5 @@
 -- A state that meets the rules has one image, which is the image of that state and of no other, and no other bytes are read as
--- that state; equal states are written alike. All this follows from read-back and read_is_image (RoundTrip). Assumes nothing.
+-- that state; equal states are written alike. All this follows from read_back and read_is_image (RoundTrip). Assumes nothing.
 --
 --   image_iff            two states that meet the rules have one image exactly when they are equal
 --   read_iff_image       bytes are read as a state exactly when they are its image
@@ -8,7 +8,7 @@
 --   write_same           equal states get one answer, and leave one buffer
 --   read_written         what is written into a buffer is read back
 --   read_refused_zero    a refused read gives an all-zero state
---   read_numbers          the numbers that reading may give beside 0
+--   read_numbers         the numbers that reading may give beside 0
 --   read_listed          it gives no other
 use Rattle.std.specs.Prelude.{ℕ, ◌≤◌, ◌≡◌, refl, Bool, true, false, List, [], ◌∷◌, ◌++◌, ◌↔◌, length, take, drop}
 use Rattle.std.proofs.Common.{sym, ◌∙◌, ap, arith}

@@ -13,7 +13,7 @@
 --   header_past                       the first ten bytes past the tests for 21, 20 and 22: what these say, and what decides then
 --   HeaderInRange bs                  the first ten bytes are there, with the mark and with numbers that meet S1
 --   header_in_range, header_sizes     they are so where they are not refused; S1 as bounds of these numbers
---   header_numbers, header_listed      the numbers that the first ten bytes may give beside 0; they give no other
+--   header_numbers, header_listed     the numbers that the first ten bytes may give beside 0; they give no other
 --   replica_missing .. replica_whole  a replica: its first five bytes missing, its end above L, its log missing, or all there
 --   ReplicaFits l bs at               the replica at this place has all its bytes, and its end is at most l
 --   replica_fits                      it is so where the replica is not refused

@@ -3,9 +3,9 @@
 --   record_back .. replica_back         a record, a request and a replica: what is written of each is read back
 --   Writable l p                        what this takes from the rules: an end that fits, epochs and leaders that fit in a byte
 --   image_bytes                         the image of a state that meets the rules is a list of bytes
---   with_zero_arrays s                    the state that the first ten bytes give: s with zeros for its requests and replicas
+--   with_zero_arrays s                  the state that the first ten bytes give: s with zeros for its requests and replicas
 --   header_back .. body_back            the first ten bytes, the requests and the replicas of a state are read back
---   read-back                           the image of a state that meets the rules is read as that state, tidy
+--   read_back                           the image of a state that meets the rules is read as that state, tidy
 --   record_faithful .. header_faithful  the bytes that a part is read from are those that are written of it
 --   Accepted bs s                       what an accepted reading of bs as s went through
 --   read_meets_rules                    what is read meets the rules

@@ -6,7 +6,7 @@ use Rattle.logic.specs.Table.{table, ext_table}
 use Rattle.logic.specs.Concat.{concat_below}
 use Rattle.parts.specs.Mark.{byte_at}
 
--- every number of the list is a byte; those of a `&[u8]` are (images/proofs/read_image/Proof.antt)
+-- every number of the list is a byte; those of a `&[u8]` are (images/proofs/read_image/Answers.antt)
 pub record Bytes (bs : List ℕ) : Type 0 where
   pub byte : (i : ℕ) → byte_at bs i < 256
 

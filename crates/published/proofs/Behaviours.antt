@@ -2,7 +2,7 @@
 -- states is the meaning of one that meets S1 to S7, so TypeOk holds of it. Assumes nothing.
 --
 --   AllAccepted s actions     the actions are accepted one after another, from s
---   states_after s actions     the states that they hand back
+--   states_after s actions    the states that they hand back
 --   MeanAll c us states       the model's states us are the meanings of these states, one by one
 --   MeetsRules c u            u is the meaning of a state of the configuration c that meets S1 to S7
 --   next_is_accepted          the steps of the model are the accepted actions

@@ -1,7 +1,7 @@
 -- The source's `\E` over the choices of an action comes to naming them by operands. So Next is the choice of some action, and
 -- a kind has an accepted action exactly where the source's action is enabled. Assumes nothing.
 --
---   kind_number kind            a number of the kind
+--   kind_number kind           a number of the kind
 --   kind_of_number             the kind of that number is the given one
 --   RequestsHaveEpochs u       every request of u has an epoch that an operand can name
 --   means_epochs               it holds of every state of the model that is the meaning of a state

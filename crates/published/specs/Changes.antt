@@ -3,7 +3,7 @@
 --
 --   except_same, except_other       a function changed at a: its value at a, and elsewhere
 --   Becomes u a p logs states       these logs and local states are those of u but at a, where they are those of the replica p
---   with_changes u logs states n q   u with these logs and local states, the next id n and the quorum q
+--   with_changes u logs states n q  u with these logs and local states, the next id n and the quorum q
 --   put_iff                         v is u so changed exactly where it is the meaning of s with replica a, the next id and the
 --                                   quorum replaced
 --   put_only_iff                    the same where the next id and the quorum stay

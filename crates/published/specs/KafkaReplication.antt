@@ -3,14 +3,14 @@
 -- LeaderInIsr. "Its helper modules for logs and number sequences, and the module that joins its actions, aren't in the source; for
 -- them this paper decides." So of the operators of these modules, and of Util, there is no published text to compare with. Where the
 -- paper settles one in words, the words stand at it:
---   of IdSequence            IdSet, TypeOk, Init
---   of FiniteReplicatedLog   what a log is (Log), when two are equal (SameLog), Offsets, StartOffset, Init, TypeOk of the ends,
+--   of IdSequence                     IdSet, TypeOk, Init
+--   of FiniteReplicatedLog            what a log is (Log), when two are equal (SameLog), Offsets, StartOffset, Init, TypeOk of the ends,
 --                            GetEndOffset, HasOffset
 -- The others neither document defines. They are ours, written to fit the paper's rules, and belong to what a reader must believe:
---   of IdSequence            NextId
---   of FiniteReplicatedLog   that TypeOk asks every record to be one of LogRecords, HasEntry, Append, TruncateTo, ReplicateTo
---   of Util                  Min
---   what joins the actions   the follower's action with its choice of a leader (BecomeFollower), Next, finite behaviours
+--   of IdSequence                     NextId
+--   of FiniteReplicatedLog            that TypeOk asks every record to be one of LogRecords, HasEntry, Append, TruncateTo, ReplicateTo
+--   of Util                           Min
+--   what joins the actions            the follower's action with its choice of a leader (BecomeFollower), Next, finite behaviours
 -- Nothing of the product is used here. Assumes nothing.
 --
 --   Constants, Replicas k             the four constants; the set of replicas, which are the numbers below replica_count
@@ -40,14 +40,14 @@
 --   FiniteBehaviour k us              the first state of us is by Init, and each next one by Next (ours)
 --
 -- How the source is written, with u the state before an action and v the state after it:
---   x, x'                  the variable x of the state before, u.x, and after, v.x
---   r \in S                r is_in S for a set of replicas; S r for a set of anything else
---   /\, \/, ~, #           ×, ⊎, ¬, ≢
---   \E x \in S : P         (x : ..) × S x × P
---   \A x \in S : P         (x : ..) → S x → P
---   f[r]                   f r
---   [f EXCEPT ![r] = x]    except f r x
---   M!Op                   M-as-Op
+--   x, x'                             the variable x of the state before, u.x, and after, v.x
+--   r \in S                           r is_in S for a set of replicas; S r for a set of anything else
+--   /\, \/, ~, #                      ×, ⊎, ¬, ≢
+--   \E x \in S : P                    (x : ..) × S x × P
+--   \A x \in S : P                    (x : ..) → S x → P
+--   f[r]                              f r
+--   [f EXCEPT ![r] = x]               except f r x
+--   M!Op                              M·Op
 use Rattle.std.specs.Prelude.{ℕ, ◌+◌, ◌-◌, ◌≤◌, ◌<◌, min, ◌≡◌, Bool, true, false, not, ◌&&◌, ◌||◌, cond, List, [], ◌∷◌, ◌↔◌, ◌≢◌, ◌⊎◌, eqb, ltb, ℤ, pos, negsuc, ◌<ℤ◌}
 use Rattle.std.proofs.Math.Option.{Option, none, some}
 
@@ -181,14 +181,14 @@ IdSequence·TypeOk maxId next_id = next_id ≤ maxId + 1
 abbrev pub IdSequence·Init : ℕ → Type 0
 IdSequence·Init next_id = next_id ≡ 0
 
--- LeaderEpochSeq == INSTANCE IdSequence WITH MaxId <- MaxLeaderEpoch, next_id <- nextLeaderEpoch
+-- LeaderEpochSeq == INSTANCE IdSequence WITH MaxId <- MaxLeaderEpoch, nextId <- nextLeaderEpoch
 abbrev pub LeaderEpochSeq·IdSet : Constants → ℕ → Type 0
 LeaderEpochSeq·IdSet k = IdSet k.MaxLeaderEpoch
 
 abbrev pub LeaderEpochSeq·NextId : Constants → ModelState → ModelState → ℕ → Type 0
 LeaderEpochSeq·NextId k u v = NextId k.MaxLeaderEpoch u.nextLeaderEpoch v.nextLeaderEpoch
 
--- RecordSeq == INSTANCE IdSequence WITH MaxId <- MaxRecords - 1, next_id <- nextRecordId; "M from 1 to 64", so M - 1 is not
+-- RecordSeq == INSTANCE IdSequence WITH MaxId <- MaxRecords - 1, nextId <- nextRecordId; "M from 1 to 64", so M - 1 is not
 -- below 0
 abbrev pub RecordSeq·IdSet : Constants → ℕ → Type 0
 RecordSeq·IdSet k = IdSet (k.MaxRecords - 1)

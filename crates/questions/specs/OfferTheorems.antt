@@ -3,7 +3,7 @@
 --
 --   Accepted s kind t                        the action of this kind with the operands t is accepted
 --   Offered s kind t                         it is, none smaller is, and the operands that the kind does not use are 0
---   offer_numbers                             the numbers that an offer may give beside 0
+--   offer_numbers                            the numbers that an offer may give beside 0
 --   Case s kind o                            the four cases of an answer o: a broken state, an unknown kind, no offer, an offer
 --   offer_met, offer_unmet                   the answer of a state that meets the rules, and of one that does not
 --   offer_case                               the answer is one of the four cases

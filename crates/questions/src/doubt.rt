@@ -212,7 +212,7 @@ fn doubt_after(property: Property, before: u8, s: State, action: Action) -> Doub
 }
 
 // Whether a property that held before an action holds of the state that the action led to: the narrow test of it, which decides that
-// (`Holds-after`). The caller shows that the state meets the rules, and that what the test reads of it is there.
+// (`holds_after`). The caller shows that the state meets the rules, and that what the test reads of it is there.
 pub fn holds_after(property: Property, before: u8, s: State, action: Action) -> bool
     requires s_value { rules s ≡ true }
     requires reads_within { ReadsWithin s action }

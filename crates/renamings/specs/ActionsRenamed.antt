@@ -1,7 +1,7 @@
 -- The nine actions under a renaming: the renamed action on the renamed state gets the same number, and its effect is the
 -- renamed effect. Assumes nothing.
 --
---   ren t, ren_replica q                        a state and a replica under the renaming p
+--   ren t, ren_replica q                       a state and a replica under the renaming p
 --   presumes_renamed .. passes_renamed         the tests that the actions share: of p(a) in the renamed state as of a in the state
 --   refusal_renamed                            the table refuses the renamed action on the renamed state with the same number
 --   update_renamed .. isr_renamed              the changes that the effects are made of

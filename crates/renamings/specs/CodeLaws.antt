@@ -5,11 +5,11 @@
 --   in_place_low, in_place_high               the test of one place, below n and from n on
 --   numbers_at                                number 5 * k + j of the table is place j of row k
 --   renames_wide                              a renaming of a state's replicas is a renaming of five places
---   named_bit isr i name                       the bit of the new name of i where i is a member, else 0
+--   named_bit isr i name                      the bit of the new name of i where i is a member, else 0
 --   named-bit                                 as code computes it, in a byte and at most 16
---   isr_by_names p isr, isr-by-names            the sum of these bits over the five replicas; it is the renamed ISR
+--   isr_by_names p isr, isr-by-names          the sum of these bits over the five replicas; it is the renamed ISR
 --   isr_named                                 what the table of all 32 renamed ISRs holds for an ISR
---   request_looked_up p isrs requests e         request e with its ISR looked up so
+--   request_looked_up p isrs requests e       request e with its ISR looked up so
 --   requests_looked_up                        the requests looked up are the renamed requests
 --   inverse_start, inverse_turn               the loop that finds the old names: its start, and a turn
 --   both_inward                               new names and old names are below five
@@ -18,7 +18,7 @@
 --   state_by                                  the renamed parts together are the renamed state
 --   rename_broken, rename_unfit, rename_fits  what renaming answers: 41 to 47, 27, or the state under p
 --   rename_given                              a refused renaming gives back the given state
---   rename_numbers, rename_listed              the numbers that renaming may give beside 0; it gives no other
+--   rename_numbers, rename_listed             the numbers that renaming may give beside 0; it gives no other
 use Rattle.std.specs.Prelude.{ℕ, zero, suc, ◌+◌, ◌*◌, ◌^◌, ◌/◌, ◌%◌, ◌≤◌, ◌<◌, ◌≡◌, Bool, true, false, ◌&&◌, List, [], ◌∷◌, ◌++◌, map, eqb, ltb, length, get_or, set}
 use Rattle.std.proofs.Math.Path.{refl, ap, fun_ext}
 use Rattle.std.proofs.Common.{sym, ap₂, ◌∙◌, add-one, arith, mod-lt, lt-ltb, le-ltb, eq-eqb, ne_eqb, eqb-true, ltb-true, length-set}

@@ -2,21 +2,21 @@
 -- n! rows: those rows leave the first 5 - n places, and their last n places, less 5 - n, are the orders of 0 to n - 1. One test
 -- that is computed shows it. Assumes nothing.
 --
---   fitting_rows n                           the rows of the table that are renamings of n replicas
+--   fitting_rows n                          the rows of the table that are renamings of n replicas
 --   factorial n                             n!, how many there are
---   last_place n held j                      place j of such a row, by what the places of a row of the table hold
+--   last_place n held j                     place j of such a row, by what the places of a row of the table hold
 --   last_cong                               it looks at five places of that row alone
---   held_by k x                              what place x of row k of the table holds
---   fitting_row n k                          number k of the fitting rows, read off row k of the table
+--   held_by k x                             what place x of row k of the table holds
+--   fitting_row n k                         number k of the fitting rows, read off row k of the table
 --   fitting-rows .. fitting_at              the fitting rows are these, n! of them; what is read off is not below 5 - n
 --   counts_are_factorials                   n! by the constant of the code
 --   fitting_fits, fitting_all               each is a renaming of n replicas, and each renaming of n replicas is one of them
 --   fitting_first, fitting_once             the first keeps every name; none stands twice
 --   fitting_one, fitting_most, fitting_few  there is one at least, there are at most 120, and below five replicas at most 24
---   group_rest n b k                         how many rows from row k on agree with it up to place b
---   behind_group n b k to                    the row behind those, or `to` where that comes before
+--   group_rest n b k                        how many rows from row k on agree with it up to place b
+--   behind_group n b k to                   the row behind those, or `to` where that comes before
 --   behind_bounds, group_alike              it is behind row k and not behind `to`; the rows before it name replica b as row k does
---   part_number first k, part_numbers first   the 120 numbers of the 24 rows from row `first` on
+--   part_number first k, part_numbers first the 120 numbers of the 24 rows from row `first` on
 --   part_at                                 what stands at a place of such a part
 use Rattle.std.specs.Prelude.{ℕ, zero, suc, ◌+◌, ◌*◌, ◌-◌, ◌%◌, ◌≤◌, ◌<◌, ◌≡◌, refl, Bool, true, not, cond, List, [], ◌∷◌, eqb, ltb, length, get_or}
 use Rattle.std.proofs.Common.{sym, ◌∙◌}

@@ -3,7 +3,7 @@
 -- of n replicas is a renaming: it has an inverse. Assumes nothing.
 --
 --   five p                        the first five numbers of a list
---   same_numbers xs ys             whether two lists are equal
+--   same_numbers xs ys            whether two lists are equal
 --   rows_count                    the table has 120 rows
 --   row_renaming                  each is a renaming of five places
 --   rows_rise, no_row_twice       they rise, so no row stands twice
@@ -16,7 +16,7 @@
 --   row_number                    a renaming is a row of the table: its number, below 120
 --   new_old, old_new              new and old names undo one another
 --   new_name_keeps                numbers from n on keep their names
---   renaming_of n small p h        five places that pass the test, as a renaming with its inverse
+--   renaming_of n small p h       five places that pass the test, as a renaming with its inverse
 use Rattle.std.specs.Prelude.{ℕ, suc, ◌+◌, ◌*◌, ◌-◌, ◌≤◌, ◌<◌, ◌≡◌, Bool, ◌&&◌, ◌||◌, List, [], ◌∷◌, ltb, length, get_or}
 use Rattle.std.proofs.Math.Path.{refl, ap}
 use Rattle.std.proofs.Common.{sym, ◌∙◌, subst, arith}

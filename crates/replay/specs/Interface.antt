@@ -3,19 +3,19 @@
 --
 --   Reply                           what a function has to say before it looks at `out`: a number that refuses, or its answer
 --   number reply out                the number that it returns
---   out_after reply out              `out` afterwards
---   length_written reply out         how many bytes it writes
+--   out_after reply out             `out` afterwards
+--   length_written reply out        how many bytes it writes
 --   Replies reply out result after  a function with this reply, lent `out`, returns result and leaves after
---   reply_by number reply            the reply where the number is 0, else a refusal by that number
---   state_reply .. image_reply        the replies of the library's answers: states, weak and strong ISR, offers, images
---   width_refusal state              21 or 23 where bytes are not as many as a flat state has
---   on_state state reply             the reply by the state of these bytes, or that refusal
---   rename_by s places               what renaming by places that come as bytes answers; 27 where they are not five
---   number_bytes n, verdict_bytes v   a number as four bytes, and a verdict as 250
---   replay_fresh .. replay_judge      the reply of each of the ten functions
---   member_named_by state .. e        the member that replay_act names
---   number_and_member r member out    what replay_act returns
---   number_and_length reply out       what replay_write_image returns
+--   reply_by number reply           the reply where the number is 0, else a refusal by that number
+--   state_reply .. image_reply      the replies of the library's answers: states, weak and strong ISR, offers, images
+--   width_refusal state             21 or 23 where bytes are not as many as a flat state has
+--   on_state state reply            the reply by the state of these bytes, or that refusal
+--   rename_by s places              what renaming by places that come as bytes answers; 27 where they are not five
+--   number_bytes n, verdict_bytes v a number as four bytes, and a verdict as 250
+--   replay_fresh .. replay_judge    the reply of each of the ten functions
+--   member_named_by state .. e      the member that replay_act names
+--   number_and_member r member out  what replay_act returns
+--   number_and_length reply out     what replay_write_image returns
 use Rattle.std.specs.Prelude.{ℕ, ◌+◌, ◌*◌, ◌/◌, ◌%◌, ◌≡◌, cond, List, [], ◌∷◌, ◌++◌, eqb, ltb, length, drop}
 use Rattle.logic.specs.Refuse.{refuse, first_refusal, by_refusal}
 use Rattle.parts.specs.Refusal.{accepted, too_short, left_over, buffer_short, not_renaming}

@@ -1,11 +1,11 @@
 -- Lists of numbers compared from the front, with three answers: less, equal, greater. Their parts are compared one after the
 -- other: the first part that differs decides, and what stands behind it does not count. Assumes nothing.
 --
---   compare_numbers x y                   two numbers compared
---   then_compare a b                      the answer a where it decides, else b
+--   compare_numbers x y                  two numbers compared
+--   then_compare a b                     the answer a where it decides, else b
 --   decides a                            whether the answer a is not equal
---   compare_bytes xs ys                   two lists compared from the front
---   decision_below n c                    the first of the answers c 0 to c (n - 1) that decides, or equal
+--   compare_bytes xs ys                  two lists compared from the front
+--   decision_below n c                   the first of the answers c 0 to c (n - 1) that decides, or equal
 --   first_stands, next_stands            what then_compare is where code finds that the first answer decides, or does not
 --   then_both                            where two answers together are equal, each is
 --   decision_none .. decision_passed     the turns of a loop that stops at the first answer that decides
@@ -14,7 +14,7 @@
 --   begin_whole                          xs and ys themselves compare as o
 --   begin_same .. begin_two              equal lists, one number each, and two numbers each
 --   begin_then, begin_concat             a part and the next, and n parts one after the other
---   is_less a                             whether the answer a is less
+--   is_less a                            whether the answer a is less
 --   precedes_compare                     the answer is less exactly where the first list comes before the second
 --   says_less, says_equal, says_greater  when the answer is less, equal and greater
 use Rattle.std.specs.Prelude.{ℕ, zero, suc, ◌+◌, ◌≤◌, ◌<◌, ◌≡◌, refl, Bool, true, false, cond, ◌↔◌, ltb}

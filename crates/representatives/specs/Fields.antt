@@ -1,16 +1,16 @@
 -- Two renamings of a state compared field by field, with no image of either, and the proof that this answers what comparing their
 -- images answers. p and q are the five places of two renamings. Assumes nothing.
 --
---   compare_two x y z w                    x and then y compared with z and then w
---   compare_records r t                    two records: id, epoch
---   compare_logs a b                       the logs of two replicas, record by record up to the end of the first
---   compare_named p q l isr m other        leader l and isr by the names of p with leader m and other by those of q
---   compare_heads p q a b                  two replicas without their logs
---   compare_replicas p q a b               two replicas
+--   compare_two x y z w                   x and then y compared with z and then w
+--   compare_records r t                   two records: id, epoch
+--   compare_logs a b                      the logs of two replicas, record by record up to the end of the first
+--   compare_named p q l isr m other       leader l and isr by the names of p with leader m and other by those of q
+--   compare_heads p q a b                 two replicas without their logs
+--   compare_replicas p q a b              two replicas
 --   compare_replicas_at, compare_requests_at  the replicas that p and q name j, and request e by both
---   compare_all_requests s p q              the requests of s by p and by q
---   compare_all_replicas s p q              the replicas of s, in the order of their new names by p and by q
---   compare_under s p q                    the state under p compared with the state under q, field by field
+--   compare_all_requests s p q            the requests of s by p and by q
+--   compare_all_replicas s p q            the replicas of s, in the order of their new names by p and by q
+--   compare_under s p q                   the state under p compared with the state under q, field by field
 --   named_begin .. image_begin            each part of the two images begins with the answer of its fields
 --   compare_images                        comparing the two images answers compare_under
 --   precedes_under                        the one image comes before the other exactly where that answer is less

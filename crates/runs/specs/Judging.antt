@@ -1,9 +1,9 @@
 -- What is counted as the run records of a run are judged one by one, and the laws that it becomes the verdict of the whole run.
 -- Assumes nothing.
 --
---   failed_at known holds count          when a property first failed: `known`; where that is 0, `count` if it fails now, else 0
---   tally_after tally step               what is counted after one accepted step more
---   accepted_step action next            the step of an accepted action that hands back the state `next`
+--   failed_at known holds count         when a property first failed: `known`; where that is 0, `count` if it fails now, else 0
+--   tally_after tally step              what is counted after one accepted step more
+--   accepted_step action next           the step of an accepted action that hands back the state `next`
 --   tally_more                          tally_after gives the tally of the steps with one step more
 --   KnownOfState tally s                what the tally says of the state s that the run has reached
 --   Narrowed tally quorum next action   what it says of the next state: there the narrow test decides what has not failed
@@ -11,11 +11,11 @@
 --                                       the next one
 --   known_after                         and it holds of the state that a step hands back
 --   failed_before .. failed_now         what failed_at is, case by case
---   verdict_at tally number at last      the verdict where the run stops
+--   verdict_at tally number at last     the verdict where the run stops
 --   resumed tally s trace               the verdict where it goes on from s with a trace
---   run_record_here run at                the run record that starts at a byte of the run
---   trace_here s at run                  the trace from the state s and that byte on
---   from_here tally s at run             the verdict from there on, with what is counted so far
+--   run_record_here run at              the run record that starts at a byte of the run
+--   trace_here s at run                 the trace from the state s and that byte on
+--   from_here tally s at run            the verdict from there on, with what is counted so far
 --   here_begun, here_end                from_here at the first run record, and at the run's end
 --   here_refused, here_on               from_here at a run record that is refused, and at one that is accepted
 use Prim.Native.Nat.{ℕ, zero, suc, ◌+◌, ◌≤◌, ◌<◌, max}

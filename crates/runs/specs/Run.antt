@@ -3,23 +3,23 @@
 -- 22, then the action's number. Each record is judged on its own part of the input. .. It stops at the first refusal. The first
 -- action takes the configuration's fresh state, each later one the state that the one before handed back". Assumes nothing.
 --
---   configuration_width, run_record_width   how many bytes the configuration and the run record of an action have: six each
---   longest_run                           65,532, the most bytes that a run may have
---   configuration_mark, action_mark        the second byte of each mark
---   mark_refusal mark bytes               20 where the bytes have another mark, else 0
---   run_record_refusal width mark bytes    21 where there are fewer bytes than `width`, then mark_refusal
+--   configuration_width, run_record_width  how many bytes the configuration and the run record of an action have: six each
+--   longest_run                          65,532, the most bytes that a run may have
+--   configuration_mark, action_mark      the second byte of each mark
+--   mark_refusal mark bytes              20 where the bytes have another mark, else 0
+--   run_record_refusal width mark bytes  21 where there are fewer bytes than `width`, then mark_refusal
 --   configure bytes                      what a configuration answers: its fresh state, or a refusal and zeros
---   action_in bytes                       the action of a run record
---   act_on s bytes                        what the run record of an action answers on the state s
---   configuration_of run                  the bytes of the run's configuration
---   run_records_of run                     the run records behind it
+--   action_in bytes                      the action of a run record
+--   act_on s bytes                       what the run record of an action answers on the state s
+--   configuration_of run                 the bytes of the run's configuration
+--   run_records_of run                   the run records behind it
 --   opening run                          what the length and the configuration of the run answer
---   Step, step_on s bytes                 a run record on the state s: its action and its answer
---   states_in steps                       the states that steps hand back
---   Trace, trace_from s at records        the accepted steps from s on, the refusal or 0, and the byte where the run stops
---   tally_of first steps                  what is counted over steps from a first state on
---   last_of s states                      the last of s and the states behind it
---   verdict_from first trace              the verdict of a trace from a first state on
+--   Step, step_on s bytes                a run record on the state s: its action and its answer
+--   states_in steps                      the states that steps hand back
+--   Trace, trace_from s at records       the accepted steps from s on, the refusal or 0, and the byte where the run stops
+--   tally_of first steps                 what is counted over steps from a first state on
+--   last_of s states                     the last of s and the states behind it
+--   verdict_from first trace             the verdict of a trace from a first state on
 --   unopened number                      the verdict of a run that its length or its configuration refuses
 --   judge run                            the verdict of a run of bytes
 use Rattle.std.specs.Prelude.{ℕ, ◌+◌, Bool, not, List, [], ◌∷◌, map, ltb, length, take, drop}

@@ -2,10 +2,10 @@
 --
 --   configuration R L M X           the six bytes of a configuration
 --   action kind a b e               the six bytes of the run record of an action
---   shrink a .. replicate_from a b   such run records of the kinds 0 to 4, 7 and 8
+--   shrink a .. replicate_from a b  such run records of the kinds 0 to 4, 7 and 8
 --   verdict records                 the verdict of the run that these run records make
 --   numbers records                 its six numbers: accepted, refusal, at, weak, strong, exposed
---   paper_run                        the run of example 1
+--   paper_run                       the run of example 1
 --   exchanged s                     s with the blocks of replicas 1 and 2 exchanged
 --   MarkedExamples                  the marked examples 1 to 9, as one statement
 --   marked_examples                 its proof, by computing

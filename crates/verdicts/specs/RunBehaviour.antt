@@ -5,14 +5,14 @@
 -- nothing.
 --
 --   Whole bytes                   these are a run record of an action, with its six bytes and the mark
---   steps_after s actions          the steps of actions one after another, from s on
+--   steps_after s actions         the steps of actions one after another, from s on
 --   opening_is                    by which number a run does not open, on its own bytes
 --   opens_fresh, opens_with       it opens with the fresh state of R, L, M and X, which are its bytes 2 to 5
---   run_record_at run k             run record k behind the configuration, the first with number 0
---   accepted_actions run           the actions of its accepted run records
---   next_run_record run             the run record behind the accepted ones
---   states_of run, state_at run n   its states, the first one with number 0; the state of number n
---   constants_in run               the published constants, as its configuration has them
+--   run_record_at run k           run record k behind the configuration, the first with number 0
+--   accepted_actions run          the actions of its accepted run records
+--   next_run_record run           the run record behind the accepted ones
+--   states_of run, state_at run n its states, the first one with number 0; the state of number n
+--   constants_in run              the published constants, as its configuration has them
 --   Joins run k                   run record k is six bytes of the run with the action mark, its action joins states k and k + 1
 --   steps_are, states_are         its steps and its states are those of its accepted actions
 --   state_kept, last_kept         each of its states meets S1 to S7, is tidy, and has the limits of the first

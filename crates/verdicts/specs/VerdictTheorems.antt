@@ -9,10 +9,10 @@
 --   accepted_fills                     a run is not refused exactly where its accepted run records fill it
 --   refused_by                         a refused run has the number of its next run record on its last state
 --   accepted_opened, accepted_at       a run that is not refused has an accepted configuration, and stops at its end
---   run_record_numbers, opening_numbers   the numbers of a run record's length and mark, and those before the first action
---   run_numbers                         all numbers that refuse a run: 2 to 16, 18 to 22, 25, 48 and 49
+--   run_record_numbers, opening_numbers  the numbers of a run record's length and mark, and those before the first action
+--   run_numbers                        all numbers that refuse a run: 2 to 16, 18 to 22, 25, 48 and 49
 --   run_listed, run_breaks_none        no other number refuses a run, and none of a state rule
---   most_actions                        10,921, the most actions that a run can hold
+--   most_actions                       10,921, the most actions that a run can hold
 --   Small v                            the bounds of the numbers of the verdict v
 --   verdict_small                      Small holds of the verdict of every run
 use Rattle.std.specs.Prelude.{ℕ, ◌+◌, ◌*◌, ◌-◌, ◌≤◌, ◌<◌, min, zero, suc, ◌≡◌, refl, Bool, true, false, not, List, [], ◌∷◌, ◌++◌, map, ◌↔◌, ltb, length, take, drop}
