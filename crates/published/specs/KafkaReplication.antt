@@ -171,15 +171,15 @@ IdSet maxId id = id ≤ maxId
 
 -- NextId(i), ours: i is the next number and at most MaxId, and the next number rises by 1
 abbrev pub NextId : ℕ → ℕ → ℕ → ℕ → Type 0
-NextId maxId next_id nextId' id = (id ≡ next_id) × (id ≤ maxId) × (nextId' ≡ next_id + 1)
+NextId maxId nextId nextId' id = (id ≡ nextId) × (id ≤ maxId) × (nextId' ≡ nextId + 1)
 
 -- TypeOk, by the paper: the next number is at most MaxId + 1, as S1 has it: "next epoch at most X+1; next id at most M"
 abbrev pub IdSequence·TypeOk : ℕ → ℕ → Type 0
-IdSequence·TypeOk maxId next_id = next_id ≤ maxId + 1
+IdSequence·TypeOk maxId nextId = nextId ≤ maxId + 1
 
 -- Init, by the paper: the next number is 0, as in the paper's fresh state: "next epoch 0, next id 0"
 abbrev pub IdSequence·Init : ℕ → Type 0
-IdSequence·Init next_id = next_id ≡ 0
+IdSequence·Init nextId = nextId ≡ 0
 
 -- LeaderEpochSeq == INSTANCE IdSequence WITH MaxId <- MaxLeaderEpoch, nextId <- nextLeaderEpoch
 abbrev pub LeaderEpochSeq·IdSet : Constants → ℕ → Type 0
