@@ -1,26 +1,20 @@
 -- Which numbers an action may give beside 0: each is in the list, of an action on a state that meets the rules, and on any state.
 -- Assumes nothing.
-use Rattle.std.specs.Prelude.{ℕ, zero, suc, ◌≡◌, Bool, true, false, List, [], ◌∷◌, ◌++◌, map}
-use Rattle.std.proofs.Math.Path.{refl, sym, ap₂}
+use Rattle.std.specs.Prelude.{ℕ, ◌≡◌, true, List, ◌∷◌, ◌++◌, map}
+use Rattle.std.proofs.Math.Path.{refl, sym}
 use Rattle.std.proofs.Common.{◌∙◌, ap}
 use Rattle.logic.specs.Tests.{every}
-use Rattle.logic.specs.Refuse.{refuse, first_refusal, by_refusal, by_other, listed, listed_refuse, listed_first, listed_within}
-use Rattle.parts.specs.declared.Leader.{Leader}
-use Rattle.parts.specs.declared.Leader.TheVariants.{None, Some}
-use Rattle.parts.specs.Refusal.{accepted, unknown_kind, bad_operand, no_epoch_left, not_in_isr, already_so, no_request, wrong_leader, epoch_not_higher, not_presuming, no_id_left, log_full, not_true_leader, same_replica, caught_up, not_caught_up, not_following, nothing_to_replicate, member_not_following, member_lacks_offset}
+use Rattle.logic.specs.Refuse.{listed, listed_refuse, listed_first, listed_within}
+use Rattle.parts.specs.Refusal.{accepted}
 use Rattle.cluster.specs.declared.State.{State}
 use Rattle.cluster.specs.declared.Action.{Action}
-use Rattle.cluster.specs.declared.ActionAnswer.{ActionAnswer}
 use Rattle.cluster.specs.declared.Kind.{Kind}
 use Rattle.cluster.specs.declared.Kind.TheVariants.{ControllerShrinkIsr, ControllerElectLeader, BecomeLeader, BecomeFollower, LeaderWrite, LeaderShrinkIsr, LeaderExpandIsr, LeaderIncHighWatermark, FollowerReplicate, Unknown}
-use Rattle.cluster.specs.State.{request_at, Same, tidy}
+use Rattle.cluster.specs.State.{tidy}
 use Rattle.cluster.specs.Rules.{rules, state_refusal, state_numbers}
-use Rattle.cluster.specs.RuleLaws.{state_listed, broken_refusal}
-use Rattle.cluster.specs.Equality.{same_refl, same_iff_tidy}
-use Rattle.cluster.specs.Unused.{state_refusal_same}
-use Rattle.cluster.specs.Actions.{controller_shrink_isr_refusal, controller_elect_leader_refusal, leader_refusal, become_leader_refusal, become_follower_refusal, leader_write_refusal, leader_shrink_isr_refusal, leader_expand_isr_refusal, leader_inc_high_watermark_refusal, member_named, follower_replicate_refusal}
-use Rattle.cluster.specs.Act.{kind_of, table_refusal, action_refusal, effect, action_answer, accepted_with, refused_on, answer_by, refusal, act}
-use Rattle.cluster.specs.ActLaws.{answer_number, answer_zero, answer_other, refusal_of_met, act_broken}
+use Rattle.cluster.specs.RuleLaws.{state_listed}
+use Rattle.cluster.specs.Act.{kind_of, table_refusal, action_refusal, refusal}
+use Rattle.cluster.specs.ActLaws.{refusal_of_met}
 use Rattle.actions.specs.Answers.{action_numbers, row_numbers, table_listed}
 
 -- each row is within the list of all

@@ -1,9 +1,8 @@
 -- What the actions make of a replica may stand in its place: a request taken, another ISR, a record added, a log cut.
 -- Assumes nothing.
-use Rattle.std.specs.Prelude.{ℕ, ◌+◌, ◌^◌, ◌≤◌, ◌<◌, min, ◌≡◌, refl, true, List, ℤ, pos, set}
+use Rattle.parts.specs.Leader.{Leader}
+use Rattle.std.specs.Prelude.{ℕ, ◌+◌, ◌^◌, ◌≤◌, ◌<◌, min, ◌≡◌, refl, true, List, ℤ, pos, set, None, Some}
 use Rattle.std.proofs.Common.{sym, ◌∙◌, arith}
-use Rattle.parts.specs.declared.Leader.{Leader}
-use Rattle.parts.specs.declared.Leader.TheVariants.{None, Some}
 use Rattle.parts.specs.Isr.{member}
 use Rattle.parts.specs.EpochLaws.{pos_injective, pos_negsuc}
 use Rattle.parts.specs.LeaderLaws.{none_some}

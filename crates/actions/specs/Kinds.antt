@@ -13,17 +13,15 @@
 --   advance_sound               kind 7
 --   replicate_sound             kind 8
 --   kind_sound                  the nine together: the kind's effect, where its operands fit and the table does not refuse it
-use Rattle.std.specs.Prelude.{ℕ, ◌+◌, ◌^◌, ◌<◌, ◌≡◌, Bool, pos}
+use Rattle.std.specs.Prelude.{ℕ, ◌+◌, ◌^◌, ◌<◌, ◌≡◌, Bool, pos, None, Some}
 use Rattle.std.proofs.Math.Path.{refl}
 use Rattle.std.proofs.Common.{sym, ◌∙◌, arith}
 use Rattle.std.proofs.Math.Bool.{true, false}
 use Rattle.logic.specs.Tests.{true_false}
-use Rattle.parts.specs.declared.Leader.{Leader}
-use Rattle.parts.specs.declared.Leader.TheVariants.{None, Some}
 use Rattle.parts.specs.Refusal.{accepted}
 use Rattle.parts.specs.Isr.{member, without, including, is_alone}
 use Rattle.parts.specs.IsrLaws.{without_below, including_below, stays_without, stays_including}
-use Rattle.parts.specs.Leader.{names}
+use Rattle.parts.specs.Leader.{Leader, names}
 use Rattle.parts.specs.LeaderLaws.{none_some, some-injective, names_iff}
 use Rattle.replica.specs.LogLaws.{InUse}
 use Rattle.replica.specs.Change.{with_hw, with_isr, with_request, append}

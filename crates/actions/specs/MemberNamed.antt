@@ -21,7 +21,7 @@ use Rattle.parts.specs.Isr.{member}
 use Rattle.replica.specs.Replica.{tidy_replica}
 use Rattle.cluster.specs.declared.State.{State}
 use Rattle.cluster.specs.declared.Action.{Action}
-use Rattle.cluster.specs.declared.ActionAnswer.{ActionAnswer}
+use Rattle.cluster.specs.Answer.{ActionAnswer}
 use Rattle.cluster.specs.declared.Kind.{Kind}
 use Rattle.cluster.specs.declared.Kind.TheVariants.{ControllerShrinkIsr, ControllerElectLeader, BecomeLeader, BecomeFollower, LeaderWrite, LeaderShrinkIsr, LeaderExpandIsr, LeaderIncHighWatermark, FollowerReplicate, Unknown}
 use Rattle.cluster.specs.declared.MemberTest.{MemberTest}
@@ -29,7 +29,6 @@ use Rattle.cluster.specs.declared.MemberTest.TheVariants.{IsFollowing, HasOffset
 use Rattle.cluster.specs.State.{replica_count_of, replica_at, tidy}
 use Rattle.cluster.specs.Rules.{state_refusal, state_numbers}
 use Rattle.cluster.specs.RuleLaws.{refusal_met, state_listed}
-use Rattle.cluster.specs.Predicates.{rules_iff}
 use Rattle.cluster.specs.Equality.{tidy-replica, tidy_same}
 use Rattle.cluster.specs.Unused.{rules_tidy}
 use Rattle.cluster.specs.Actions.{replica_presumes_leadership, replica_is_following, passes_test, member_passes, members_pass, first_not_passing, member_named, leader_inc_high_watermark_refusal}

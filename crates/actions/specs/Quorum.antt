@@ -1,7 +1,6 @@
 -- The quorum's ISR put anew, where an epoch is used and the leader is in that ISR: the state stays sound. Assumes nothing.
-use Rattle.std.specs.Prelude.{ℕ, ◌^◌, ◌<◌, ◌≡◌, true}
+use Rattle.std.specs.Prelude.{ℕ, ◌^◌, ◌<◌, ◌≡◌, true, Some}
 use Rattle.std.proofs.Common.{arith}
-use Rattle.parts.specs.declared.Leader.TheVariants.{Some}
 use Rattle.parts.specs.Isr.{member}
 use Rattle.cluster.specs.declared.Limits.{Limits}
 use Rattle.cluster.specs.declared.State.{State}

@@ -24,27 +24,20 @@
 
 mod print;
 
-ghost use Rattle.std.specs.Prelude.{◌≡◌, ◌≤◌, length};
+ghost use Rattle.std.specs.Prelude.{◌≤◌};
 
-use cluster::{Action, Limits, State};
+use cluster::{Action, State, limits_at};
 use flat::read::state_of;
+use questions::Property;
 use std::io;
 use std::io::Read;
 use std::process::ExitCode;
 
-// The most bytes that a question has. The caller of each function that takes a question shows that there is room for so many.
+// The most bytes that a question has.
 const LONGEST: usize = 257;
 
-// A byte as a number of bytes.
-fn size(n: u8) -> usize
-    ensures { result ≤ 255 }
-{
-    n as usize
-}
-
 // How many bytes a question has, by its first two, which every question has; 2 as long as these are not there.
-fn question_length(question: &[u8], at: usize) -> usize
-    requires { 257 ≤ length question.now }
+fn question_length(question: &[u8; LONGEST], at: usize) -> usize
     ensures { result ≤ 257 }
 {
     if at < 2 {
@@ -54,107 +47,65 @@ fn question_length(question: &[u8], at: usize) -> usize
         2 => flat::WIDTH + 5,
         3 => flat::WIDTH + 6,
         7 | 8 => flat::WIDTH + 2,
-        9 => size(question[1]) + 2,
+        9 => question[1] as usize + 2,
         _ => flat::WIDTH + 1,
     }
 }
 
-// R, L, M and X.
-fn limits_of(question: &[u8]) -> Limits
-    requires { 257 ≤ length question.now }
-{
-    Limits {
-        replica_count: question[1],
-        log_size: question[2],
-        max_records: question[3],
-        max_leader_epoch: question[4],
-    }
-}
-
 // Kind, a, b and e.
-fn action_of(question: &[u8]) -> Action
-    requires { 257 ≤ length question.now }
-{
-    Action {
-        kind: question[1],
-        a: question[2],
-        b: question[3],
-        e: question[4],
-    }
+fn action_of(question: &[u8; LONGEST]) -> Action {
+    let &[_, kind, a, b, e, ..] = question;
+    Action { kind, a, b, e }
 }
 
 // The five places.
-fn places_of(question: &[u8]) -> [u8; 5]
-    requires { 257 ≤ length question.now }
-{
-    [
-        question[1],
-        question[2],
-        question[3],
-        question[4],
-        question[5],
-    ]
+fn places_of(question: &[u8; LONGEST]) -> [u8; 5] {
+    let &[_, a, b, c, d, e, ..] = question;
+    [a, b, c, d, e]
 }
 
-// What an action answers on a state.
-fn act(out: &impl Print, s: State, action: Action) -> io::Result<()> {
-    let answer = s.act(action);
-    print::state(
-        out,
-        b"act",
-        &[answer.refusal as u64, answer.member as u64],
-        answer.state,
-    )
-}
-
-// What writing the image of a state into a buffer answers and leaves there.
-fn write_into(out: &impl Print, s: State, buffer: &mut [u8]) -> io::Result<()> {
-    let written = images::write_image(s, &mut buffer[..]);
-    print::image(out, written, buffer)
-}
-
-// The same of a buffer of n bytes that all hold 238. The caller shows that n is at most 255.
-fn write(out: &impl Print, s: State, n: usize) -> io::Result<()>
-    requires { n ≤ 255 }
-{
+// What writing the image of a state into a buffer of n bytes answers, which all hold 238, and leaves there.
+fn write(out: &impl Print, s: State, n: u8) -> io::Result<()> {
     let mut buffer = [238u8; 255];
-    write_into(out, s, &mut buffer[..n])
+    let space = &mut buffer[..n as usize];
+    let answer = images::write_image(s, space);
+    print::image(out, answer, space)
 }
 
 // What reading the bytes of a question as an image answers.
-fn read(out: &impl Print, question: &[u8]) -> io::Result<()>
-    requires { 257 ≤ length question.now }
-{
-    let end = size(question[1]) + 2;
-    print::outcome(out, b"read", images::read_image(&question[2..end]))
+fn read(out: &impl Print, question: &[u8; LONGEST]) -> io::Result<()> {
+    let end = question[1] as usize + 2;
+    print::outcome(out, "read", images::read_image(&question[2..end]))
 }
 
 // Answers a question by its first byte, as the list above has it.
-fn answer(out: &impl Print, question: &[u8]) -> io::Result<()>
-    requires { 257 ≤ length question.now }
-{
+fn answer(out: &impl Print, question: &[u8; LONGEST]) -> io::Result<()> {
     match question[0] {
-        0 => print::outcome(out, b"fresh", State::fresh(limits_of(question))),
-        1 => print::rule(out, state_of(&question[1..]).state_refusal()),
-        2 => act(out, state_of(&question[5..]), action_of(question)),
+        0 => print::outcome(out, "fresh", State::fresh(limits_at(question, 1))),
+        1 => print::rule(out, state_of(&question[1..]).validate()),
+        2 => print::act(out, state_of(&question[5..]).act(action_of(question))),
         3 => print::outcome(
             out,
-            b"rename",
+            "rename",
             renamings::rename(state_of(&question[6..]), places_of(question)),
         ),
         4 => print::outcome(
             out,
-            b"representative",
+            "representative",
             representatives::representative(state_of(&question[1..])),
         ),
-        5 => print::isr(out, b"weak", questions::weak_isr(state_of(&question[1..]))),
+        5 => print::isr(
+            out,
+            "weak",
+            questions::ask_isr(Property::WeakIsr, state_of(&question[1..])),
+        ),
         6 => print::isr(
             out,
-            b"strong",
-            questions::strong_isr(state_of(&question[1..])),
+            "strong",
+            questions::ask_isr(Property::StrongIsr, state_of(&question[1..])),
         ),
         7 => print::offer(out, questions::offer(state_of(&question[2..]), question[1])),
-        8 => write(out, state_of(&question[2..]), size(question[1])),
+        8 => write(out, state_of(&question[2..]), question[1]),
         9 => read(out, question),
         _ => print::unknown(out),
     }
@@ -167,10 +118,9 @@ fn fail(rt: &impl Eprint, stream: &str, error: io::Error) -> ExitCode {
 }
 
 // Reads to the end of the input, and answers each question once it is whole. A proved loop has to end, so it counts its turns, to a
-// number that no input reaches. The caller shows that what it lends has room for the longest question and no more.
-fn answer_all(rt: &(impl Print + Eprint), input: &mut impl Read, question: &mut [u8]) -> ExitCode
-    requires { length question.old ≡ 257 }
-{
+// number that no input reaches. How far a turn goes is what the read answers, so the place in the question is kept beside it.
+fn answer_all(rt: &(impl Print + Eprint), input: &mut impl Read) -> ExitCode {
+    let mut question = [0u8; LONGEST];
     let mut at: usize = 0;
     let mut end: usize = 2;
     for _ in 0..u64::MAX {
@@ -181,10 +131,10 @@ fn answer_all(rt: &(impl Print + Eprint), input: &mut impl Read, question: &mut 
         if more == 0 {
             return ExitCode::SUCCESS;
         }
-        at = at + more;
-        end = question_length(question, at);
+        at += more;
+        end = question_length(&question, at);
         if end <= at {
-            if let Err(error) = answer(rt, question) {
+            if let Err(error) = answer(rt, &question) {
                 return fail(rt, "standard output", error);
             }
             at = 0;
@@ -195,6 +145,5 @@ fn answer_all(rt: &(impl Print + Eprint), input: &mut impl Read, question: &mut 
 }
 
 fn main(rt: HostRuntime) -> ExitCode {
-    let mut question = [0u8; LONGEST];
-    answer_all(&rt, &mut rt.stdin(), &mut question)
+    answer_all(&rt, &mut rt.stdin())
 }

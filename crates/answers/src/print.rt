@@ -1,137 +1,103 @@
 // The answers as lines of text.
-ghost use Rattle.std.specs.Prelude.{◌≤◌, length};
-
-use cluster::{Outcome, State};
+use cluster::{Refused, RefusedAction, State, ValidState};
 use flat::write::put_state;
-use images::Written;
-use questions::{IsrAnswer, OfferAnswer};
-use std::io;
+use parts::refusal::Refusal;
+use questions::{Difference, Operands};
+use std::{fmt, io};
 
-// Room for the longest line: `write`, two numbers of at most three digits and 255 bytes with a space before each, and the line's end.
-const LINE: usize = 525;
+// Bytes in hexadecimal, two digits for each, in capitals.
+#[derive(Clone, Copy)]
+struct Hex<'a>(&'a [u8]);
 
-// The last hexadecimal digit of a number, in capitals.
-fn last_digit(n: u8) -> u8 {
-    let digits = b"0123456789ABCDEF";
-    digits[(n % 16) as usize]
-}
-
-// Puts bytes at a place of a line, as far as there is room, and answers the place behind them. The caller of this and of the other
-// functions that put shows that the place is in the line or at its end.
-fn put(line: &mut [u8], at: usize, bytes: &[u8]) -> usize
-    requires { at ≤ length line.old }
-    ensures { result ≤ length line.new }
-{
-    let mut end = at;
-    let mut i: usize = 0;
-    while i < bytes.len() && end < line.len() {
-        line[end] = bytes[i];
-        end = end + 1;
-        i = i + 1;
+impl fmt::Display for Hex<'_> {
+    fn fmt<W: fmt::Write>(&self, f: &mut fmt::Formatter<W>) -> fmt::Result {
+        for byte in self.0 {
+            write!(f, "{byte:02X}")?;
+        }
+        Ok(())
     }
-    end
 }
 
-// A space and a number in decimal.
-fn put_number(line: &mut [u8], at: usize, number: u64) -> usize
-    requires { at ≤ length line.old }
-    ensures { result ≤ length line.new }
-{
-    let mut digits = itoa::Buffer::new();
-    let first = put(&mut line[..], at, b" ");
-    put(&mut line[..], first, digits.format(number).as_bytes())
-}
+// The flat form of a state, in hexadecimal.
+#[derive(Clone, Copy)]
+struct Flat(State);
 
-// Each of the numbers in decimal, with a space before it.
-fn put_numbers(line: &mut [u8], at: usize, numbers: &[u64]) -> usize
-    requires { at ≤ length line.old }
-    ensures { result ≤ length line.new }
-{
-    let mut end = at;
-    let mut i: usize = 0;
-    while i < numbers.len() {
-        end = put_number(&mut line[..], end, numbers[i]);
-        i = i + 1;
+impl fmt::Display for Flat {
+    fn fmt<W: fmt::Write>(&self, f: &mut fmt::Formatter<W>) -> fmt::Result {
+        let mut bytes = [0u8; flat::WIDTH];
+        put_state(&mut bytes, 0, self.0);
+        write!(f, "{}", Hex(&bytes))
     }
-    end
 }
 
-// A space and bytes in hexadecimal, two digits for each; nothing where there are none.
-fn put_bytes(line: &mut [u8], at: usize, bytes: &[u8]) -> usize
-    requires { at ≤ length line.old }
-    ensures { result ≤ length line.new }
-{
-    if bytes.len() == 0 {
-        return at;
+// What an action answers.
+pub(crate) fn act(out: &impl Print, answer: Result<State, RefusedAction>) -> io::Result<()> {
+    match answer {
+        Ok(next) => println!(out; "act 0 0 {}", Flat(next)),
+        Err(r) => println!(out;
+            "act {} {} {}",
+            r.refusal.number(),
+            r.member.unwrap_or(0),
+            Flat(r.state)
+        ),
     }
-    let mut end = put(&mut line[..], at, b" ");
-    let mut i: usize = 0;
-    while i < bytes.len() {
-        let b = bytes[i];
-        let pair = [last_digit(b / 16), last_digit(b)];
-        end = put(&mut line[..], end, &pair);
-        i = i + 1;
+}
+
+// A state that is answered, or that goes with a refusal.
+pub(crate) fn outcome(
+    out: &impl Print,
+    name: &str,
+    answer: Result<State, Refused>,
+) -> io::Result<()> {
+    match answer {
+        Ok(s) => println!(out; "{name} 0 {}", Flat(s)),
+        Err(r) => println!(out; "{name} {} {}", r.refusal.number(), Flat(r.state)),
     }
-    end
 }
 
-// A line, by one write: a name, numbers, and bytes.
-fn line(out: &impl Print, name: &[u8], numbers: &[u64], bytes: &[u8]) -> io::Result<()> {
-    let mut text = [0u8; LINE];
-    let first = put(&mut text, 0, name);
-    let second = put_numbers(&mut text, first, numbers);
-    let third = put_bytes(&mut text, second, bytes);
-    let end = put(&mut text, third, b"\n");
-    out.write_all(&text[..end])
-}
-
-// A line with numbers and the flat form of a state.
-pub(crate) fn state(out: &impl Print, name: &[u8], numbers: &[u64], s: State) -> io::Result<()> {
-    let mut bytes = [0u8; flat::WIDTH];
-    put_state(&mut bytes, 0, s);
-    line(out, name, numbers, &bytes)
-}
-
-// The same, of an answer with one number.
-pub(crate) fn outcome(out: &impl Print, name: &[u8], answer: Outcome) -> io::Result<()> {
-    state(out, name, &[answer.refusal as u64], answer.state)
-}
-
-// The refusal of a state.
-pub(crate) fn rule(out: &impl Print, number: u8) -> io::Result<()> {
-    line(out, b"rule", &[number as u64], b"")
+// Which state rule is broken, if any.
+pub(crate) fn rule(out: &impl Print, answer: Result<ValidState, Refusal>) -> io::Result<()> {
+    println!(out; "rule {}", answer.err().map_or(0, Refusal::number))
 }
 
 // What weak or strong ISR answers.
-pub(crate) fn isr(out: &impl Print, name: &[u8], answer: IsrAnswer) -> io::Result<()> {
-    let numbers = [
-        answer.refusal as u64,
-        answer.holds as u64,
-        answer.leader as u64,
-        answer.member as u64,
-        answer.offset as u64,
-    ];
-    line(out, name, &numbers, b"")
+pub(crate) fn isr(
+    out: &impl Print,
+    name: &str,
+    answer: Result<Option<Difference>, Refusal>,
+) -> io::Result<()> {
+    match answer {
+        Ok(None) => println!(out; "{name} 0 1 0 0 0"),
+        Ok(Some(d)) => println!(out; "{name} 0 0 {} {} {}", d.leader, d.member, d.offset),
+        Err(refusal) => println!(out; "{name} {} 0 0 0 0", refusal.number()),
+    }
 }
 
 // What an offer answers.
-pub(crate) fn offer(out: &impl Print, answer: OfferAnswer) -> io::Result<()> {
-    let numbers = [
-        answer.refusal as u64,
-        answer.a as u64,
-        answer.b as u64,
-        answer.e as u64,
-    ];
-    line(out, b"offer", &numbers, b"")
+pub(crate) fn offer(out: &impl Print, answer: Result<Operands, Refusal>) -> io::Result<()> {
+    match answer {
+        Ok(o) => println!(out; "offer 0 {} {} {}", o.a, o.b, o.e),
+        Err(refusal) => println!(out; "offer {} 0 0 0", refusal.number()),
+    }
 }
 
 // What writing an image answers, and the buffer afterwards.
-pub(crate) fn image(out: &impl Print, answer: Written, buffer: &[u8]) -> io::Result<()> {
-    let numbers = [answer.refusal as u64, answer.length as u64];
-    line(out, b"write", &numbers, buffer)
+pub(crate) fn image(
+    out: &impl Print,
+    answer: Result<usize, Refusal>,
+    buffer: &[u8],
+) -> io::Result<()> {
+    let (number, length) = match answer {
+        Ok(length) => (0, length),
+        Err(refusal) => (refusal.number(), 0),
+    };
+    if buffer.is_empty() {
+        return println!(out; "write {number} {length}");
+    }
+    println!(out; "write {number} {length} {}", Hex(buffer))
 }
 
 // The answer to a question whose first byte is above 9.
 pub(crate) fn unknown(out: &impl Print) -> io::Result<()> {
-    line(out, b"unknown", &[], b"")
+    println!(out; "unknown")
 }

@@ -18,13 +18,12 @@
 --   advance_accepted                        kind 7: a presumes, and each member of a's ISR has a as leader and has offset hw
 --   own_hw                                  where S5 holds of a and kind 7 is accepted, a has offset hw itself
 --   Replicates s a b, replicate_accepted    kind 8: b presumes, a's leader is b, and a's end is below b's
-use Rattle.std.specs.Prelude.{ℕ, ◌+◌, ◌<◌, ◌≡◌, refl, Bool, true, false, ◌↔◌}
+use Rattle.std.specs.Prelude.{ℕ, ◌+◌, ◌<◌, ◌≡◌, refl, Bool, true, false, ◌↔◌, Some}
 use Rattle.std.proofs.Common.{sym, ap, arith}
 use Rattle.std.proofs.Math.Bool.{not}
 use borrow.Author.Tests.{ltb-true, lt-ltb, lt-leb, leb-false, eqb-false, ne_eqb, not-false}
 use Rattle.logic.specs.Tests.{every_at, all_at, implied, true_false}
 use Rattle.logic.specs.Refuse.{refuse_zero, refuse_none}
-use Rattle.parts.specs.declared.Leader.TheVariants.{Some}
 use Rattle.parts.specs.Refusal.{accepted}
 use Rattle.parts.specs.Isr.{member}
 use Rattle.parts.specs.Leader.{names}

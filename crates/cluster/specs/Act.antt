@@ -5,7 +5,7 @@ use Rattle.logic.specs.Refuse.{refuse, first_refusal, by_refusal}
 use Rattle.parts.specs.Refusal.{accepted, unknown_kind, bad_operand}
 use Rattle.cluster.specs.declared.Limits.{Limits}
 use Rattle.cluster.specs.declared.State.{State}
-use Rattle.cluster.specs.declared.ActionAnswer.{ActionAnswer}
+use Rattle.cluster.specs.Answer.{ActionAnswer}
 use Rattle.cluster.specs.declared.Action.{Action}
 use Rattle.cluster.specs.declared.Uses.{Uses}
 use Rattle.cluster.specs.declared.Bounds.{Bounds}

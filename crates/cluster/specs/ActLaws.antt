@@ -1,30 +1,36 @@
 -- What the rules give to the code of the actions, and what an action answers by its refusal. Assumes nothing.
-use Rattle.std.specs.Prelude.{ℕ, ◌≤◌, ◌<◌, max, Bool, cond, ◌&&◌, ◌∷◌, ◌≢◌, ◌≡◌, ltb, length}
+use Rattle.std.specs.Prelude.{Result, Ok, Err, ℕ, zero, suc, ◌≤◌, ◌<◌, max, Bool, cond, ◌&&◌, ◌∷◌, ◌≢◌, ◌≡◌, ltb, length}
 use Rattle.std.proofs.Math.Bool.{true, false, not}
+use Rattle.std.specs.Result.{MatchResult, IsErrAnd}
 use Rattle.std.proofs.Common.{ap, ◌∙◌, arith}
 use Rattle.std.proofs.Math.Path.{ap₂, refl, sym}
 use Rattle.std.proofs.Math.ListN.{get_or-eq_default}
 use borrow.Author.Tests.{eq-eqb, ne_eqb, ltb-true, not-true}
-use Rattle.logic.specs.Tests.{all_below, all_none, every_at}
-use Rattle.logic.specs.Refuse.{refuse, refuse_yes, refuse_no, refuse_other, refuse_this, first_yes, first_no, first_zero, by_accepted, by_refused, by_number, listed, listed_not}
-use Rattle.parts.specs.Refusal.{accepted, unknown_kind, bad_operand, member_not_following, member_lacks_offset}
+use Rattle.logic.specs.Tests.{all_below, all_none, all_fails, every_at}
+use Rattle.logic.specs.Refuse.{refuse, refuse_yes, refuse_no, refuse_other, refuse_this, first_yes, first_no, first_zero, by_accepted, by_refused, by_number, listed, listed_not, by_refusal}
+use Rattle.parts.specs.declared.refusal.Refusal.{Refusal}
+use Rattle.parts.specs.declared.refusal.Refusal.TheVariants.{MemberLacksOffset}
+use Rattle.parts.specs.Refusal.{refusal_number, accepted, unknown_kind, bad_operand, member_not_following, member_lacks_offset}
 use Rattle.parts.specs.Isr.{member, including, without}
-use Rattle.parts.specs.IsrLaws.{below_32}
+use Rattle.parts.specs.IsrLaws.{below_32, member_below}
 use Rattle.parts.specs.Leader.{leader_below}
 use Rattle.parts.specs.LeaderLaws.{leader_below_iff}
-use Rattle.cluster.specs.Accepted.{EpochLeft, replicate_accepted, write_accepted}
+use Rattle.cluster.specs.Accepted.{operands_of, action_accepted, EpochLeft, request-sent, controller_shrink_accepted, elect_accepted, become_leader_accepted, become_follower_accepted, replicate_accepted, write_accepted}
+use Rattle.cluster.specs.declared.Limits.{Limits}
 use Rattle.cluster.specs.declared.Action.{Action}
-use Rattle.cluster.specs.declared.ActionAnswer.{ActionAnswer}
-use Rattle.cluster.specs.Act.{act, action_refusal, action_answer, accepted_with, refused_on, answer_by, effect, refusal, kinds, kind_of, last_kind, uses, operand_bound, operand_bounds, operand_tests, operands_fit}
+use Rattle.cluster.specs.declared.RefusedAction.{RefusedAction}
+use Rattle.cluster.specs.Answer.{ActionAnswer, action_answer_of}
+use Rattle.cluster.specs.Act.{act, step, action_refusal, table_refusal, action_answer, accepted_with, refused_on, answer_by, effect, refusal, kinds, kind_of, last_kind, uses, operand_bound, operand_bounds, operand_tests, operands_fit}
 use Rattle.cluster.specs.RuleLaws.{refusal_met, met_refusal, state_listed}
 use Rattle.cluster.specs.Rules.{state_refusal, state_numbers, rules}
 use Rattle.cluster.specs.State.{tidy, replica_count_of, log_size_of, max_leader_epoch_of, next_leader_epoch_of, next_record_id_of, request_at, replica_at}
 use Rattle.cluster.specs.declared.State.{State}
+use Rattle.cluster.specs.declared.Kind.{Kind}
 use Rattle.cluster.specs.declared.Kind.TheVariants.{Unknown}
 use Rattle.cluster.specs.declared.MemberTest.{MemberTest}
 use Rattle.cluster.specs.declared.MemberTest.TheVariants.{IsFollowing, HasOffset}
 use Rattle.cluster.specs.Predicates.{Rules, rules_iff}
-use Rattle.cluster.specs.Actions.{leader_write_refusal, follower_replicate_refusal, passes_test, member_passes, members_pass, first_not_passing, member_named}
+use Rattle.cluster.specs.Actions.{request_missing, controller_shrink_isr_refusal, controller_elect_leader_refusal, become_leader_refusal, become_follower_refusal, leader_write_refusal, follower_replicate_refusal, passes_test, member_passes, members_pass, first_not_passing, member_named}
 
 module _ (s : State) (h : rules s ≡ true) where
   met : Rules s
@@ -261,3 +267,92 @@ accepts s action ok =
     let e : n ≡ accepted = sym (answer_number n member s (effect (tidy s) action)) ∙ ok in
     let p = first_zero (state_refusal s) (action_refusal (tidy s) action) e in
     record { met = refusal_met s p.0; unrefused = p.1; next = sym (answer_zero n member s (effect (tidy s) action) e) }
+
+-- ---- kind 7: a member that gives a refusal other than 49 gives 48, and so do all of them together
+pub member_decides : (s : State) (a m : ℕ) (r : Refusal) → m < replica_count_of s.limits → refusal_number r ≡ member_refusal s a m
+    → (r ≡ MemberLacksOffset → ⊥) → refusal_number r ≡ members_refusal s a
+unfolding member_refusal refuse
+member_decides s a m r l h other = grind (arith, all_fails (replica_count_of s.limits) m (member_passes IsFollowing s a) l)
+
+-- ---- what the code of kinds 0 to 3 asks of a state that meets the rules
+module _ (s : State) (h : rules s ≡ true) where
+  -- an accepted action of the controller has room for its request, and its member is one of five
+  pub shrink_room : (a : ℕ) → controller_shrink_isr_refusal s a ≡ accepted → next_leader_epoch_of s < 16
+  shrink_room a k = request_room s h ((controller_shrink_accepted s a (met s h).s1).0 k).1
+
+  pub shrink_member : (a : ℕ) → controller_shrink_isr_refusal s a ≡ accepted → a < 5
+  shrink_member a k = member_below s.quorum.isr a ((controller_shrink_accepted s a (met s h).s1).0 k).0
+
+  pub elect_room : (a : ℕ) → controller_elect_leader_refusal s a ≡ accepted → next_leader_epoch_of s < 16
+  elect_room a k = request_room s h ((elect_accepted s a (met s h).s1).0 k).2
+
+  -- a request that is there has a place, and its leader is one of five
+  pub there_small : (e : ℕ) → request_missing s e ≡ false → e < 16
+  there_small e k = request_small s h e (request-sent s e k)
+
+  pub there_leader : (e : ℕ) → request_missing s e ≡ false → leader_below 5 (request_at s e).leader ≡ true
+  there_leader e k = request_leader_below s h e (request-sent s e k)
+
+  -- so has the request of an accepted action
+  pub leads_small : (e : ℕ) → become_leader_refusal s e ≡ accepted → e < 16
+  leads_small e k = request_small s h e ((become_leader_accepted s e).0 k).0
+
+  pub leads_below : (e : ℕ) → become_leader_refusal s e ≡ accepted → leader_below 5 (request_at s e).leader ≡ true
+  leads_below e k = request_leader_below s h e ((become_leader_accepted s e).0 k).0
+
+  pub follows_small : (a e : ℕ) → become_follower_refusal s a e ≡ accepted → e < 16
+  follows_small a e k = request_small s h e ((become_follower_accepted s a e).0 k).0
+
+-- ---- operands of an action
+-- operands that fit have their replicas below R, where the kind uses them
+pub used_a : (c : Limits) (action : Action) → operands_fit c action ≡ true → (uses (kind_of action.kind)).a ≡ true → action.a < replica_count_of c
+used_a c action h u = (operands_of c action h (kind_of action.kind) refl).a_below u
+
+pub used_b : (c : Limits) (action : Action) → operands_fit c action ≡ true → (uses (kind_of action.kind)).b ≡ true → action.b < replica_count_of c
+used_b c action h u = (operands_of c action h (kind_of action.kind) refl).b_below u
+
+-- so has an accepted action
+pub accepted_a : (s : State) (action : Action) → action_refusal s action ≡ accepted → (uses (kind_of action.kind)).a ≡ true
+    → action.a < replica_count_of s.limits
+accepted_a s action h u = used_a s.limits action (action_accepted s action h).0 u
+
+pub accepted_b : (s : State) (action : Action) → action_refusal s action ≡ accepted → (uses (kind_of action.kind)).b ≡ true
+    → action.b < replica_count_of s.limits
+accepted_b s action h u = used_b s.limits action (action_accepted s action h).0 u
+
+-- and the table does not refuse it, by the row of its kind
+pub accepted_table : (s : State) (action : Action) (kind : Kind) → action_refusal s action ≡ accepted → kind ≡ kind_of action.kind
+    → table_refusal kind s action.a action.b action.e ≡ accepted
+accepted_table s action kind h e = rw e (action_accepted s action h).1
+
+-- ---- what act answers, by what is answered on the tidy form
+-- a refusal's number is not 0
+refuses_not_zero : (r : Refusal) → refusal_number r ≡ accepted → ⊥
+refuses_not_zero r h = grind arith
+
+-- a state that breaks a rule is refused by that
+pub act_refused : (s : State) (action : Action) (r : Refusal) → refusal_number r ≡ state_refusal s
+    → action_answer (refusal_number r) 0 s ≡ act s action
+act_refused s action r e = rw e (act_broken s action (λ k. refuses_not_zero r (e ∙ k)))
+
+-- what is answered on one state as on another: accepted, the same; refused, that the other is given back
+answer_back : (n member : ℕ) (s t next : State) (a : ActionAnswer) → a ≡ answer_by n member t next
+    → (a.refusal ≡ accepted → a ≡ answer_by n member s next)
+    × ((a.refusal ≡ accepted → ⊥) → action_answer a.refusal a.member s ≡ answer_by n member s next)
+unfolding answer_by by_refusal
+answer_back zero member s t next a e = ((λ k. e), (λ k. absurd (k (ap (λ (b : ActionAnswer). b.refusal) e))))
+answer_back (suc n) member s t next a e = (
+  (λ k. let z : suc n ≡ 0 = sym (ap (λ (b : ActionAnswer). b.refusal) e) ∙ k in absurd (omega arith)),
+  (λ k. ap (λ (b : ActionAnswer). action_answer b.refusal b.member s) e),
+)
+
+-- a state that meets the rules is answered as its tidy form is, and where that is refused is itself given back
+pub act_by_step : (s : State) (action : Action) → rules s ≡ true → (r m : Result State RefusedAction) → action_answer_of r ≡ step (tidy s) action
+    → (E : RefusedAction → RefusedAction → Type 0) → MatchResult r (λ next. m ≡ Ok next) (λ e. IsErrAnd m (E e))
+    → ((e q : RefusedAction) → E e q → q ≡ record { refusal = e.refusal; member = e.member; state = s })
+    → action_answer_of m ≡ act s action
+unfolding step
+act_by_step s action h (Ok next) m e E cases given = rw cases ((answer_back _ _ s _ _ _ e).0 refl ∙ act_met s action h)
+act_by_step s action h (Err r) (Ok next) e E cases given = absurd cases
+act_by_step s action h (Err r) (Err q) e E cases given =
+    rw (given r q cases) ((answer_back _ _ s _ _ _ e).1 (refuses_not_zero r.refusal) ∙ act_met s action h)

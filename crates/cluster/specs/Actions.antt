@@ -24,15 +24,13 @@
 --   leader_inc_high_watermark s a         kind 7, advance
 --   member_named number s a               the member of a's ISR that an answer with this number names
 --   follower_replicate s a b              kind 8, replicate
-use Rattle.std.specs.Prelude.{ℕ, ◌+◌, min, Bool, true, false, not, ◌&&◌, ◌||◌, cond, List, [], ◌∷◌, eqb, ltb, leb, pos}
+use Rattle.std.specs.Prelude.{ℕ, ◌+◌, min, Bool, true, false, not, ◌&&◌, ◌||◌, cond, List, [], ◌∷◌, eqb, ltb, leb, pos, None, Some}
 use Rattle.logic.specs.Tests.{all_below, every, first_fails}
 use Rattle.logic.specs.Refuse.{refuse}
-use Rattle.parts.specs.declared.Leader.{Leader}
-use Rattle.parts.specs.declared.Leader.TheVariants.{None, Some}
 use Rattle.parts.specs.Refusal.{accepted, no_epoch_left, not_in_isr, already_so, no_request, wrong_leader, epoch_not_higher, not_presuming, no_id_left, log_full, not_true_leader, same_replica, caught_up, not_caught_up, not_following, nothing_to_replicate, member_not_following, member_lacks_offset}
 use Rattle.parts.specs.Isr.{member, without, including, is_alone}
 use Rattle.parts.specs.Epoch.{same_epoch, higher_epoch}
-use Rattle.parts.specs.Leader.{names}
+use Rattle.parts.specs.Leader.{Leader, names}
 use Rattle.replica.specs.declared.Record.{Record}
 use Rattle.replica.specs.Replica.{record_at}
 use Rattle.replica.specs.Change.{with_hw, with_isr, with_request, append, become_follower_and_truncate_to}

@@ -1,9 +1,8 @@
 -- The fresh state of a configuration. "The fresh state: next epoch 0, next id 0, quorum epoch -1, no leader, ISR all
 -- replicas; each replica hw 0, epoch -1, no leader, empty ISR, empty log." Assumes nothing.
-use Rattle.std.specs.Prelude.{ℕ, not, cond, ltb, replicate}
+use Rattle.std.specs.Prelude.{ℕ, not, cond, ltb, replicate, None}
 use Rattle.logic.specs.Table.{table}
 use Rattle.logic.specs.Refuse.{refuse, by_refusal}
-use Rattle.parts.specs.declared.Leader.TheVariants.{None}
 use Rattle.parts.specs.Refusal.{accepted, bad_configuration}
 use Rattle.parts.specs.Isr.{full_isr}
 use Rattle.parts.specs.Epoch.{no_epoch}
@@ -12,7 +11,7 @@ use Rattle.replica.specs.Replica.{zero_record, replica_of, zero_replica}
 use Rattle.cluster.specs.declared.Limits.{Limits}
 use Rattle.cluster.specs.declared.Quorum.{Quorum}
 use Rattle.cluster.specs.declared.State.{State}
-use Rattle.cluster.specs.declared.Outcome.{Outcome}
+use Rattle.cluster.specs.Answer.{Outcome}
 use Rattle.cluster.specs.State.{replica_count_of, zero_request, state_of}
 use Rattle.cluster.specs.Outcome.{answer, with_zeros}
 use Rattle.cluster.specs.Rules.{in_range}

@@ -2,6 +2,7 @@
 --
 --   fresh-replica                 a replica of the fresh state is the fresh replica
 --   tidy_fresh_replica            which is tidy
+--   fresh_tidied                  made of a fresh replica in all five places by putting zeros past the count
 --   fresh_tidy                    the fresh state is tidy
 --   fresh_rules                   where the configuration is in range, it meets S1 to S7
 --   zero_tidy                     the all-zero state is tidy
@@ -11,7 +12,7 @@
 --   fresh_refused_zero            where the answer is not 0, it is 22, and the state is all zeros
 --   fresh_answer_tidy             the state that goes with the answer is tidy, for every configuration
 --   fresh_answer_rules            where the answer is 0, that state meets S1 to S7
-use Rattle.std.specs.Prelude.{ℕ, ◌+◌, ◌<◌, ◌≡◌, Bool, true, false, not, List, [], ◌∷◌, ltb}
+use Rattle.std.specs.Prelude.{ℕ, ◌+◌, ◌<◌, ◌≡◌, Bool, true, false, not, List, [], ◌∷◌, replicate, ltb}
 use Rattle.std.proofs.Math.Path.{refl}
 use Rattle.std.proofs.Common.{sym, ◌∙◌, ap, arith}
 use borrow.Author.Tests.{le-leb, lt-ltb, eq-eqb}
@@ -22,13 +23,12 @@ use Rattle.parts.specs.Refusal.{accepted, bad_configuration}
 use Rattle.parts.specs.Isr.{full_isr}
 use Rattle.parts.specs.IsrLaws.{none_below, full_below}
 use Rattle.parts.specs.Epoch.{same_epoch, last_epoch}
-use Rattle.parts.specs.Leader.{names, same_leader, leader_below, leader_none_or_in_isr}
 use Rattle.replica.specs.declared.Replica.{Replica}
 use Rattle.replica.specs.Replica.{zero_replica, no_replica, tidy_replica}
 use Rattle.replica.specs.Log.{log_in_use, logs_agree}
 use Rattle.cluster.specs.declared.Limits.{Limits}
-use Rattle.cluster.specs.declared.Outcome.{Outcome}
-use Rattle.cluster.specs.State.{replica_count_of, log_size_of, max_records_of, max_leader_epoch_of, replica_at, with_replicas, tidy, zero_state}
+use Rattle.cluster.specs.Answer.{Outcome}
+use Rattle.cluster.specs.State.{replica_count_of, log_size_of, max_records_of, max_leader_epoch_of, zero_request, replica_at, state_of, with_replicas, tidy_replica_at, tidy, zero_state}
 use Rattle.cluster.specs.Rules.{in_range, rule1, leader_and_isr_in_range, replica_in_range, rule2, quorum_matches_request, rule3, rule4, replica_matches_request, replica_meets_s5, rule5, rule6, agrees_with_all, rule7, rules}
 use Rattle.cluster.specs.RuleLaws.{Ranges, ranges_of}
 use Rattle.cluster.specs.Outcome.{answer, with_zeros}
@@ -43,6 +43,13 @@ fresh-replica c i h l =
 pub tidy_fresh_replica : tidy_replica fresh_replica ≡ fresh_replica
 unfolding tidy_replica table table_from
 tidy_fresh_replica = refl
+
+-- the fresh state is made of a fresh replica in all five places, with zeros put past the count
+pub fresh_tidied : (c : Limits)
+    → let s = state_of c 0 0 (fresh_quorum c) (replicate 16 zero_request) (replicate 5 fresh_replica) in
+    with_replicas s (table 5 (tidy_replica_at s)) ≡ fresh_state c
+unfolding fresh_state table table_from tidy_replica
+fresh_tidied c = refl
 
 -- the fresh state has zeros in its unused room
 pub fresh_tidy : (c : Limits) → tidy (fresh_state c) ≡ fresh_state c
@@ -71,26 +78,26 @@ module _ (c : Limits) (ok : in_range c ≡ true) where
       (every_and _ _ (le-leb 0 (max_records_of c) (omega arith)) every_none))
 
   fresh_replica_in_range : (i : ℕ) → replica_in_range c fresh_replica ≡ true
-  unfolding replica_in_range leader_and_isr_in_range leader_below
+  unfolding replica_in_range leader_and_isr_in_range
   fresh_replica_in_range i = and_both (le-leb 0 (log_size_of c) (omega arith)) (none_below (replica_count_of c) ranges.replicas)
 
   fresh2 : rule2 c 0 (fresh_quorum c) (fresh_state c).requests (fresh_state c).replicas ≡ true
-  unfolding rule2 leader_and_isr_in_range leader_below
+  unfolding rule2 leader_and_isr_in_range
   fresh2 =
       every_and _ _ (full_below (replica_count_of c) ranges.replicas)
       (every_and _ _ (all_none _)
       (every_and _ _ (each_fresh (λ p i. replica_in_range c p) fresh_replica_in_range) every_none))
 
   fresh3 : rule3 (replica_count_of c) 0 (fresh_quorum c) (fresh_state c).requests ≡ true
-  unfolding rule3 same_epoch last_epoch quorum_matches_request same_leader
+  unfolding rule3 same_epoch last_epoch quorum_matches_request
   fresh3 = eq-eqb (full_isr (replica_count_of c)) (full_isr (replica_count_of c)) refl
 
   fresh4 : rule4 0 (fresh_quorum c) (fresh_state c).requests ≡ true
-  unfolding rule4 leader_none_or_in_isr all_below
+  unfolding rule4 all_below
   fresh4 = refl
 
   fresh_replica_meets_s5 : (i : ℕ) → replica_meets_s5 0 (fresh_state c).requests fresh_replica i ≡ true
-  unfolding replica_meets_s5 replica_matches_request same_leader names every
+  unfolding replica_meets_s5 replica_matches_request every
   fresh_replica_meets_s5 i = refl
 
   fresh5 : rule5 (replica_count_of c) 0 (fresh_state c).requests (fresh_state c).replicas ≡ true

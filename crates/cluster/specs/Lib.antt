@@ -15,3 +15,4 @@ pub mod ActLaws
 pub mod Entries
 pub mod OnePass
 pub mod StateBytes
+pub mod Answer

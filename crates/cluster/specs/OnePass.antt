@@ -78,6 +78,10 @@ module _ (s : State) where
   pub one_pass : every (one_pass_tests s) ≡ rules s
   one_pass = bool_ext _ _ rules_of_tests tests_of_rules
 
+  -- so an answer that is worked out test by test is that of the rules
+  pub by_one_pass : (b : Bool) → b ≡ every (one_pass_tests s) → b ≡ rules s
+  by_one_pass b h = h ∙ one_pass
+
   -- ---- a turn of the pass: a log that breaks S6 or does not meet the table ends it
   pub log_fails : (i : ℕ) (seen last : List ℕ) → i < replica_count_of s.limits
       → Passed (replicate 256 0) (concat_below i (entries_at s.replicas)) true seen

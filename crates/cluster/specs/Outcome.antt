@@ -1,7 +1,7 @@
 -- A number and a state: what a fresh state, a reading, a renaming and a representative answer. Assumes nothing.
 use Rattle.std.specs.Prelude.{ℕ}
 use Rattle.cluster.specs.declared.State.{State}
-use Rattle.cluster.specs.declared.Outcome.{Outcome}
+use Rattle.cluster.specs.Answer.{Outcome}
 use Rattle.cluster.specs.State.{zero_state}
 
 -- a number, and the state that goes with it

@@ -8,15 +8,13 @@
 --   Rules s                                         the state meets S1 to S7
 --   rule1_iff .. rule7_iff                          the test of a rule holds exactly where the predicate does
 --   rules_iff                                       the same of the seven together
-use Rattle.std.specs.Prelude.{ℕ, zero, suc, ◌+◌, ◌^◌, ◌≤◌, ◌<◌, ◌≡◌, refl, Bool, true, List, ◌↔◌, eqb, ltb, leb, ℤ, pos, negsuc}
+use Rattle.std.specs.Prelude.{ℕ, zero, suc, ◌+◌, ◌^◌, ◌≤◌, ◌<◌, ◌≡◌, refl, Bool, true, List, ◌↔◌, eqb, ltb, leb, ℤ, pos, negsuc, None, Some}
 use Rattle.std.proofs.Common.{sym, ◌∙◌, ap, arith, leb-true, le-leb, ltb-true, lt-ltb, eqb-true, eq-eqb}
 use Rattle.logic.specs.Tests.{all_below, all_at, all_by, every_at, every_none, every_and, and_left, and_right, and_both, implied, implies, true_false}
-use Rattle.parts.specs.declared.Leader.{Leader}
-use Rattle.parts.specs.declared.Leader.TheVariants.{None, Some}
 use Rattle.parts.specs.Isr.{member, full_isr, isr_below}
 use Rattle.parts.specs.Epoch.{no_epoch, same_epoch, last_epoch}
 use Rattle.parts.specs.EpochLaws.{pos_injective, negsuc_injective, pos_negsuc, same_epoch_true, same_epoch_by}
-use Rattle.parts.specs.Leader.{names, same_leader, leader_below, leader_none_or_in_isr}
+use Rattle.parts.specs.Leader.{Leader, names, same_leader, leader_below, leader_none_or_in_isr}
 use Rattle.parts.specs.LeaderLaws.{names_iff, same_leader_iff, leader_below_iff, leader_none_or_in_isr_iff, isr_below_iff}
 use Rattle.replica.specs.declared.Replica.{Replica}
 use Rattle.replica.specs.Replica.{record_at}

@@ -13,18 +13,16 @@
 --   rules_bounded, rules_logs_bounded     counts and ends of a state that meets the rules are within the arrays
 use Prim.Native.Nat.{ℕ, zero, suc, ◌+◌, ◌-◌, ◌≤◌, ◌<◌}
 use Rattle.std.proofs.Math.Path.{ap, refl}
-use Rattle.std.specs.Prelude.{◌≡◌, Bool, true, false, ◌&&◌, List, [], ◌∷◌, ◌↔◌, eqb, leb, ℤ, pos, negsuc, drop, length, get_or}
+use Rattle.std.specs.Prelude.{◌≡◌, Bool, true, false, ◌&&◌, List, [], ◌∷◌, ◌↔◌, eqb, leb, ℤ, pos, negsuc, drop, length, get_or, None}
 use Rattle.std.proofs.Common.{sym, ◌∙◌, leb-true}
 use native.Mathlib.Omega.{arith}
 use Rattle.std.proofs.Math.Dec.{eqb-suc-zero}
 use Rattle.logic.specs.Refuse.{listed, listed_other, listed_not, distinct, FailsFirst, refuse_unless, unless_here, unless_later, unless_listed, unless_zero, unless_first}
 use Rattle.logic.specs.Tests.{all_at, every_at, and_left, and_right, true_false, refuted_iff}
-use Rattle.parts.specs.declared.Leader.{Leader}
-use Rattle.parts.specs.declared.Leader.TheVariants.{None}
 use Rattle.parts.specs.Refusal.{accepted, breaks_s7}
 use Rattle.parts.specs.Isr.{full_isr}
 use Rattle.parts.specs.Epoch.{no_epoch, same_epoch, epoch_used, request_place}
-use Rattle.parts.specs.Leader.{same_leader}
+use Rattle.parts.specs.Leader.{Leader, same_leader}
 use Rattle.replica.specs.declared.Replica.{Replica}
 use Rattle.cluster.specs.declared.Limits.{Limits}
 use Rattle.cluster.specs.declared.Quorum.{Quorum}

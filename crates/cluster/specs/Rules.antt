@@ -15,15 +15,13 @@
 --   state_numbers                        the number of each rule, 41 to 47, in their order
 --   state_refusal s                      the refusal of a state: the number of the first rule that it breaks; 0 where it breaks none
 --   Bounded s, LogsBounded s             the counts, and the ends of logs, are within the arrays
-use Rattle.std.specs.Prelude.{ℕ, zero, suc, ◌+◌, ◌≤◌, ◌<◌, Bool, false, not, ◌&&◌, ◌||◌, List, [], ◌∷◌, eqb, ltb, leb, ℤ, pos, negsuc}
+use Rattle.std.specs.Prelude.{ℕ, zero, suc, ◌+◌, ◌≤◌, ◌<◌, Bool, false, not, ◌&&◌, ◌||◌, List, [], ◌∷◌, eqb, ltb, leb, ℤ, pos, negsuc, None}
 use Rattle.logic.specs.Tests.{all_below, every}
 use Rattle.logic.specs.Refuse.{refuse_unless}
-use Rattle.parts.specs.declared.Leader.{Leader}
-use Rattle.parts.specs.declared.Leader.TheVariants.{None}
 use Rattle.parts.specs.Refusal.{breaks_s1, breaks_s2, breaks_s3, breaks_s4, breaks_s5, breaks_s6, breaks_s7}
 use Rattle.parts.specs.Isr.{member, full_isr, isr_below}
 use Rattle.parts.specs.Epoch.{same_epoch, last_epoch}
-use Rattle.parts.specs.Leader.{names, same_leader, leader_below, leader_none_or_in_isr}
+use Rattle.parts.specs.Leader.{Leader, names, same_leader, leader_below, leader_none_or_in_isr}
 use Rattle.replica.specs.declared.Replica.{Replica}
 use Rattle.replica.specs.Log.{log_in_use, logs_agree}
 use Rattle.cluster.specs.declared.Limits.{Limits}

@@ -19,10 +19,9 @@
 --   tidy_request_at s e, tidy_replica_at s i  a request and a replica of the tidy state
 --   tidy s                                the state with zeros in its unused room
 --   zero_limits, zero_quorum, zero_state  all zeros
-use Rattle.std.specs.Prelude.{ℕ, ◌+◌, ◌<◌, ◌≡◌, cond, List, ltb, pos, get_or, set, replicate}
+use Rattle.parts.specs.Leader.{Leader}
+use Rattle.std.specs.Prelude.{ℕ, ◌+◌, ◌<◌, ◌≡◌, cond, List, ltb, pos, get_or, set, replicate, None}
 use Rattle.logic.specs.Table.{table}
-use Rattle.parts.specs.declared.Leader.{Leader}
-use Rattle.parts.specs.declared.Leader.TheVariants.{None}
 use Rattle.parts.specs.Mark.{byte_at, mark_width}
 use Rattle.replica.specs.declared.Replica.{Replica}
 use Rattle.replica.specs.Replica.{zero_replica, no_replica, tidy_replica, SameReplica}

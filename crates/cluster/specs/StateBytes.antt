@@ -1,7 +1,7 @@
 -- The epochs and the leaders of a state that meets the rules fit in a byte each. Assumes nothing.
+use Rattle.parts.specs.Leader.{Leader}
 use Rattle.std.specs.Prelude.{ℕ, ◌≤◌, ◌<◌, ◌≡◌, refl, true, List, ℤ, pos, negsuc}
 use Rattle.std.proofs.Common.{arith}
-use Rattle.parts.specs.declared.Leader.{Leader}
 use Rattle.parts.specs.ByteLaws.{SmallEpoch, SmallLeader}
 use Rattle.replica.specs.Replica.{record_at}
 use Rattle.replica.specs.ReplicaBytesLaws.{SmallReplica, in_use_small}

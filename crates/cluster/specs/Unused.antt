@@ -13,9 +13,8 @@ use Rattle.std.proofs.Math.Decide.{dec_lt}
 use Rattle.std.proofs.Math.Dec.{ltb, leb}
 use Rattle.logic.specs.Refuse.{refuse_unless, unless_cong}
 use Rattle.logic.specs.Tests.{all_below, all_cong, every_cong, bool_ext}
-use Rattle.parts.specs.declared.Leader.{Leader}
 use Rattle.parts.specs.Isr.{member}
-use Rattle.parts.specs.Leader.{names, same_leader, leader_none_or_in_isr}
+use Rattle.parts.specs.Leader.{Leader, names, same_leader, leader_none_or_in_isr}
 use Rattle.replica.specs.declared.Record.{Record}
 use Rattle.replica.specs.declared.Replica.{Replica}
 use Rattle.replica.specs.Replica.{record_at, SameReplica}

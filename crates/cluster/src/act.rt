@@ -1,47 +1,44 @@
-// An action on a state: its kind and operands are tested, then the table, and the next state is made.
+// An action on a state: its kind and operands are tested, then the table, and the next state is made. The table is a `match`, and no
+// list of functions: the kinds are all known, and each arm owes what its own function asks.
 ghost use Rattle.std.specs.Prelude.{◌≡◌, true};
-ghost use Rattle.parts.specs.Refusal.{accepted};
+ghost use Rattle.parts.specs.Refusal.{accepted, refusal_number, answer_number};
 ghost use Rattle.cluster.specs.State.{tidy};
-ghost use Rattle.cluster.specs.Rules.{rules};
 ghost use Rattle.cluster.specs.Actions.{member_named};
 ghost use Rattle.cluster.specs.Act.{kind_of, operands_fit, table_refusal, action_refusal, effect, step, act};
+ghost use Rattle.cluster.specs.Answer.{member_number, action_answer_of};
 
-use crate::{Action, ActionAnswer, Kind, LAST_KIND, MemberTest, State, kinds};
-use parts::refusal::{
-    ACCEPTED, BAD_OPERAND, MEMBER_LACKS_OFFSET, MEMBER_NOT_FOLLOWING, UNKNOWN_KIND,
-};
+use crate::{Action, Kind, LAST_KIND, MemberTest, RefusedAction, State, ValidState, kinds};
+use parts::refusal::Refusal;
 
-impl State {
-    // The refusal by the table. The caller shows that the state meets the rules and that the operands fit.
-    fn table_refusal(self, action: Action) -> u8
-        requires self_value { rules self ≡ true }
-        requires action_value { operands_fit self.limits action ≡ true }
-        ensures { result ≡ table_refusal (kind_of action.kind) self action.a action.b action.e }
+impl ValidState {
+    // Whether the table lets the action pass. The caller shows that the operands fit.
+    #[tactic(auto, using(crate::specs::ActLaws::used_a, crate::specs::ActLaws::used_b), unfolding(crate::specs::Act::uses, crate::specs::Act::table_refusal))]
+    fn check_table(self, action: Action) -> Result<(), Refusal>
+        requires { operands_fit self.state.limits action ≡ true }
+        ensures { answer_number result ≡ table_refusal (kind_of action.kind) self.state action.a action.b action.e }
     {
-        let kind = Kind::of(action.kind);
-        match kind {
-            Kind::ControllerShrinkIsr => self.controller_shrink_isr_refusal(action.a),
-            Kind::ControllerElectLeader => self.controller_elect_leader_refusal(action.a),
-            Kind::BecomeLeader => self.become_leader_refusal(action.e),
-            Kind::BecomeFollower => self.become_follower_refusal(action.a, action.e),
-            Kind::LeaderWrite => self.leader_write_refusal(action.a),
-            Kind::LeaderShrinkIsr => self.leader_shrink_isr_refusal(action.a, action.b),
-            Kind::LeaderExpandIsr => self.leader_expand_isr_refusal(action.a, action.b),
-            Kind::LeaderIncHighWatermark => self.leader_inc_high_watermark_refusal(action.a),
-            Kind::FollowerReplicate => self.follower_replicate_refusal(action.a, action.b),
-            Kind::Unknown => UNKNOWN_KIND,
+        match Kind::from(action.kind) {
+            Kind::ControllerShrinkIsr => self.check_controller_shrink_isr(action.a),
+            Kind::ControllerElectLeader => self.check_controller_elect_leader(action.a),
+            Kind::BecomeLeader => self.check_become_leader(action.e),
+            Kind::BecomeFollower => self.check_become_follower(action.a, action.e),
+            Kind::LeaderWrite => self.check_leader_write(action.a),
+            Kind::LeaderShrinkIsr => self.check_leader_shrink_isr(action.a, action.b),
+            Kind::LeaderExpandIsr => self.check_leader_expand_isr(action.a, action.b),
+            Kind::LeaderIncHighWatermark => self.check_leader_inc_high_watermark(action.a),
+            Kind::FollowerReplicate => self.check_follower_replicate(action.a, action.b),
+            Kind::Unknown => Err(Refusal::UnknownKind),
         }
     }
 
     // The next state by the table, where the action is accepted: nothing is tested, and the state is not made tidy. The caller
-    // shows that the state meets the rules and that the action is not refused on it.
+    // shows that the action is not refused on the state.
+    #[tactic(auto, using(crate::specs::ActLaws::accepted_a, crate::specs::ActLaws::accepted_b), unfolding(crate::specs::Act::uses, crate::specs::Act::effect, crate::specs::Act::table_effect))]
     pub fn effect(self, action: Action) -> State
-        requires self_value { rules self ≡ true }
-        requires action_value { action_refusal self action ≡ accepted }
-        ensures { result ≡ effect self action }
+        requires { action_refusal self.state action ≡ accepted }
+        ensures { result ≡ effect self.state action }
     {
-        let kind = Kind::of(action.kind);
-        match kind {
+        match Kind::from(action.kind) {
             Kind::ControllerShrinkIsr => self.controller_shrink_isr(action.a),
             Kind::ControllerElectLeader => self.controller_elect_leader(action.a),
             Kind::BecomeLeader => self.become_leader(action.e),
@@ -51,94 +48,76 @@ impl State {
             Kind::LeaderExpandIsr => self.leader_expand_isr(action.a, action.b),
             Kind::LeaderIncHighWatermark => self.leader_inc_high_watermark(action.a),
             Kind::FollowerReplicate => self.follower_replicate(action.a, action.b),
-            Kind::Unknown => self,
+            Kind::Unknown => self.state,
         }
     }
 
-    // The refusal of an action on a state that meets the rules, or 0. The caller shows that the state meets the rules.
-    pub fn action_refusal(self, action: Action) -> u8
-        requires { rules self ≡ true }
-        ensures { result ≡ action_refusal self action }
+    // Whether an action is accepted.
+    #[tactic(auto, unfolding(crate::specs::Act::action_refusal, logic::specs::Refuse::refuse))]
+    pub fn check_action(self, action: Action) -> Result<(), Refusal>
+        ensures { answer_number result ≡ action_refusal self.state action }
     {
         if LAST_KIND < action.kind {
-            return UNKNOWN_KIND;
+            return Err(Refusal::UnknownKind);
         }
-        let limits = self.limits;
-        if !kinds::operands_fit(limits, action) {
-            return BAD_OPERAND;
+        if !kinds::operands_fit(self.state.limits, action) {
+            return Err(Refusal::BadOperand);
         }
-        self.table_refusal(action)
+        self.check_table(action)
     }
 
-    // The member that an answer names: beside 48 and 49 the smallest of a's ISR with that fault, else 0. The caller shows that the
-    // state meets the rules and that the action is refused on it by this number.
-    fn member_named(self, action: Action, refusal: u8) -> u8
-        requires self_value { rules self ≡ true }
-        requires refusal_value { refusal ≡ action_refusal self action }
-        ensures { result ≡ member_named refusal self action.a }
+    // The member that an answer names: beside 48 and 49 the smallest of a's ISR with that fault, else none. The caller shows that the
+    // action is refused on the state so.
+    #[tactic(auto, using(crate::specs::ActLaws::named_operand), unfolding(crate::specs::Actions::member_named))]
+    fn member_named(self, action: Action, refusal: Refusal) -> Option<u8>
+        requires { refusal_number refusal ≡ action_refusal self.state action }
+        ensures { member_number result ≡ member_named (refusal_number refusal) self.state action.a }
     {
-        if refusal == MEMBER_NOT_FOLLOWING {
-            return self.first_not_passing(MemberTest::IsFollowing, action.a);
+        match refusal {
+            Refusal::MemberNotFollowing => {
+                Some(self.first_not_passing(MemberTest::IsFollowing, action.a))
+            }
+            Refusal::MemberLacksOffset => {
+                Some(self.first_not_passing(MemberTest::HasOffset, action.a))
+            }
+            _ => None,
         }
-        if refusal == MEMBER_LACKS_OFFSET {
-            return self.first_not_passing(MemberTest::HasOffset, action.a);
-        }
-        0
     }
 
-    // What an action answers on a state that is known to meet the rules and to be tidy: neither is tested. The caller
-    // shows both. The answer is that of `act`.
-    fn step(self, action: Action) -> ActionAnswer
-        requires self_value { rules self ≡ true }
-        requires self_value_2 { tidy self ≡ self }
-        ensures { result ≡ step self action }
+    // What an action answers on a state that is known to be tidy: that is not tested. The caller shows it. The answer is that of `act`.
+    #[tactic(auto, unfolding(crate::specs::Act::step, crate::specs::Act::answer_by, logic::specs::Refuse::by_refusal))]
+    fn step(self, action: Action) -> Result<State, RefusedAction>
+        requires { tidy self.state ≡ self.state }
+        ensures { action_answer_of result ≡ step self.state action }
     {
-        let refusal = self.action_refusal(action);
-        if refusal == ACCEPTED {
-            let next = self.effect(action);
-            return ActionAnswer {
-                refusal: ACCEPTED,
-                member: 0,
-                state: next,
-            };
+        match self.check_action(action) {
+            Ok(()) => Ok(self.effect(action)),
+            Err(refusal) => Err(RefusedAction {
+                refusal,
+                member: self.member_named(action, refusal),
+                state: self.state,
+            }),
         }
-        // Every other refusal of an action is smaller, and names no member; a call would copy the state for nothing.
-        if refusal < MEMBER_NOT_FOLLOWING {
-            return ActionAnswer {
-                refusal: refusal,
-                member: 0,
+    }
+}
+
+impl State {
+    // What an action answers on any state: accepted, the next state, with zeros in its unused room; refused, why, the member that is
+    // named, and the state as given.
+    #[tactic(auto, using(crate::specs::Equality::tidy_twice, crate::specs::ActLaws::act_refused))]
+    pub fn act(self, action: Action) -> Result<State, RefusedAction>
+        ensures { action_answer_of result ≡ act self action }
+    {
+        match self.validate() {
+            Ok(valid) => valid.tidy().step(action).map_err(|refused| RefusedAction {
                 state: self,
-            };
-        }
-        let member = self.member_named(action, refusal);
-        ActionAnswer {
-            refusal: refusal,
-            member: member,
-            state: self,
-        }
-    }
-
-    // What an action answers on any state: accepted, 0 and the next state, with zeros in its unused room; refused, the number, the
-    // member that it names and the state as given.
-    pub fn act(self, action: Action) -> ActionAnswer
-        ensures { result ≡ act self action }
-    {
-        let broken = self.state_refusal();
-        if broken != ACCEPTED {
-            return ActionAnswer {
-                refusal: broken,
-                member: 0,
+                ..refused
+            }),
+            Err(refusal) => Err(RefusedAction {
+                refusal,
+                member: None,
                 state: self,
-            };
-        }
-        let answer = self.tidy().step(action);
-        if answer.refusal == ACCEPTED {
-            return answer;
-        }
-        ActionAnswer {
-            refusal: answer.refusal,
-            member: answer.member,
-            state: self,
+            }),
         }
     }
 }

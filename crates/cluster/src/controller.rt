@@ -1,100 +1,91 @@
-// Kinds 0 and 1: what the controller does. The caller of a refusal shows that the state meets the rules; the caller of an
-// effect shows also that the action is accepted.
-ghost use Rattle.std.specs.Prelude.{◌≡◌, true, ◌<◌};
-ghost use Rattle.parts.specs.Refusal.{accepted};
+// Kinds 0 and 1: what the controller does. The caller of an effect shows that the action is accepted.
+ghost use Rattle.std.specs.Prelude.{◌≡◌, ◌<◌};
+ghost use Rattle.parts.specs.Refusal.{accepted, answer_number};
 ghost use Rattle.cluster.specs.State.{next_leader_epoch_of, controller_update_isr};
-ghost use Rattle.cluster.specs.Rules.{rules};
 ghost use Rattle.cluster.specs.Actions.{controller_shrink_isr_refusal, controller_shrink_isr, controller_elect_leader_refusal, controller_elect_leader};
 
-use crate::{Quorum, Request, State};
-use parts::Leader;
-use parts::refusal::{ACCEPTED, ALREADY_SO, NO_EPOCH_LEFT, NOT_IN_ISR};
+use crate::{Quorum, Request, State, ValidState};
+use parts::refusal::Refusal;
 
 impl State {
     // The state with a new quorum at the next epoch, stored as that epoch's request, and the next epoch raised. The caller
     // shows that there is room for the request.
-    fn controller_update_isr(self, new_leader: Leader, new_isr: u8) -> State
+    #[tactic(auto, unfolding(crate::specs::State::controller_update_isr))]
+    fn controller_update_isr(self, leader: Option<u8>, isr: u8) -> State
         requires { next_leader_epoch_of self < 16 }
-        ensures { result ≡ controller_update_isr self new_leader new_isr }
+        ensures { result ≡ controller_update_isr self leader isr }
     {
-        let next = self.next_leader_epoch;
-        let epoch = parts::epoch_of(next);
-        let quorum = Quorum {
-            epoch: epoch,
-            leader: new_leader,
-            isr: new_isr,
+        let epoch = self.next_leader_epoch;
+        let mut next = self;
+        next.quorum = Quorum {
+            epoch: parts::epoch_of(epoch),
+            leader,
+            isr,
         };
-        let request = Request {
-            leader: new_leader,
-            isr: new_isr,
-        };
-        let mut t = self;
-        t.quorum = quorum;
-        t.requests[next as usize] = request;
-        t.next_leader_epoch = next + 1;
-        t
+        next.requests[epoch as usize] = Request { leader, isr };
+        next.next_leader_epoch = epoch + 1;
+        next
     }
+}
 
-    // Kind 0: the refusal of taking a out of the quorum's ISR.
-    pub(crate) fn controller_shrink_isr_refusal(self, a: u8) -> u8
-        requires { rules self ≡ true }
-        ensures { result ≡ controller_shrink_isr_refusal self a }
+impl ValidState {
+    // Kind 0: whether a may be taken out of the quorum's ISR.
+    #[tactic(auto, unfolding(crate::specs::Actions::controller_shrink_isr_refusal, logic::specs::Refuse::refuse))]
+    pub(crate) fn check_controller_shrink_isr(self, a: u8) -> Result<(), Refusal>
+        ensures { answer_number result ≡ controller_shrink_isr_refusal self.state a }
     {
-        let q = self.quorum;
-        if !parts::is_member(q.isr, a) {
-            return NOT_IN_ISR;
+        if !parts::is_member(self.state.quorum.isr, a) {
+            return Err(Refusal::NotInIsr);
         }
-        if self.epochs_used_up() {
-            return NO_EPOCH_LEFT;
+        if self.state.epochs_used_up() {
+            return Err(Refusal::NoEpochLeft);
         }
-        ACCEPTED
+        Ok(())
     }
 
     // Kind 0: a new quorum, in whose ISR a is no longer, and which a does not lead. Where a leads and is alone, the ISR
     // keeps it.
+    #[tactic(auto, using(crate::specs::ActLaws::shrink_room, crate::specs::ActLaws::shrink_member), unfolding(crate::specs::Actions::controller_shrink_isr, crate::specs::Actions::shrink_by))]
     pub(crate) fn controller_shrink_isr(self, a: u8) -> State
-        requires self_value { rules self ≡ true }
-        requires a_value { controller_shrink_isr_refusal self a ≡ accepted }
-        ensures { result ≡ controller_shrink_isr self a }
+        requires { controller_shrink_isr_refusal self.state a ≡ accepted }
+        ensures { result ≡ controller_shrink_isr self.state a }
     {
-        let q = self.quorum;
-        let l = q.leader;
+        let q = self.state.quorum;
         let rest = parts::without_member(q.isr, a);
-        if l.names(a) {
-            if parts::is_alone(q.isr, a) {
-                return self.controller_update_isr(Leader::None, q.isr);
-            }
-            return self.controller_update_isr(Leader::None, rest);
+        if q.leader != Some(a) {
+            return self.state.controller_update_isr(q.leader, rest);
         }
-        self.controller_update_isr(l, rest)
+        if parts::is_alone(q.isr, a) {
+            return self.state.controller_update_isr(None, q.isr);
+        }
+        self.state.controller_update_isr(None, rest)
     }
 
-    // Kind 1: the refusal of electing a.
-    pub(crate) fn controller_elect_leader_refusal(self, a: u8) -> u8
-        requires { rules self ≡ true }
-        ensures { result ≡ controller_elect_leader_refusal self a }
+    // Kind 1: whether a may be elected.
+    #[tactic(auto, unfolding(crate::specs::Actions::controller_elect_leader_refusal, logic::specs::Refuse::refuse))]
+    pub(crate) fn check_controller_elect_leader(self, a: u8) -> Result<(), Refusal>
+        ensures { answer_number result ≡ controller_elect_leader_refusal self.state a }
     {
-        let q = self.quorum;
-        let l = q.leader;
+        let q = self.state.quorum;
         if !parts::is_member(q.isr, a) {
-            return NOT_IN_ISR;
+            return Err(Refusal::NotInIsr);
         }
-        if l.names(a) {
-            return ALREADY_SO;
+        if q.leader == Some(a) {
+            return Err(Refusal::AlreadySo);
         }
-        if self.epochs_used_up() {
-            return NO_EPOCH_LEFT;
+        if self.state.epochs_used_up() {
+            return Err(Refusal::NoEpochLeft);
         }
-        ACCEPTED
+        Ok(())
     }
 
     // Kind 1: a new quorum, which a leads, with the same ISR.
+    #[tactic(auto, using(crate::specs::ActLaws::elect_room), unfolding(crate::specs::Actions::controller_elect_leader))]
     pub(crate) fn controller_elect_leader(self, a: u8) -> State
-        requires self_value { rules self ≡ true }
-        requires a_value { controller_elect_leader_refusal self a ≡ accepted }
-        ensures { result ≡ controller_elect_leader self a }
+        requires { controller_elect_leader_refusal self.state a ≡ accepted }
+        ensures { result ≡ controller_elect_leader self.state a }
     {
-        let q = self.quorum;
-        self.controller_update_isr(Leader::Some(a), q.isr)
+        self.state
+            .controller_update_isr(Some(a), self.state.quorum.isr)
     }
 }

@@ -1,15 +1,16 @@
 // Kinds and operands of actions.
 ghost use Rattle.std.specs.Prelude.{◌≡◌, ◌≤◌};
 ghost use Rattle.cluster.specs.State.{max_leader_epoch_of};
-ghost use Rattle.cluster.specs.Act.{kind_of, use_of, uses, operand_bound, operand_bounds, operands_fit};
+ghost use Rattle.cluster.specs.Act.{kind_of, uses, use_of, operand_bound, operand_bounds, operands_fit};
 
 use crate::{Action, Bounds, Kind, Limits, Uses};
 
-impl Kind {
-    // The kind of a number from 0 to 8; Unknown for any other.
-    pub fn of(n: u8) -> Kind
-        ensures { result ≡ kind_of n }
-    {
+// The kind of a number from 0 to 8; Unknown for any other.
+impl From<u8> for Kind {
+    ghost from_gives = { λ n kind. kind ≡ kind_of n };
+
+    #[tactic(auto, using(crate::specs::ActLaws::kind_unknown), unfolding(crate::specs::Act::kind_of))]
+    fn from(n: u8) -> Kind {
         match n {
             0 => Kind::ControllerShrinkIsr,
             1 => Kind::ControllerElectLeader,
@@ -23,8 +24,11 @@ impl Kind {
             _ => Kind::Unknown,
         }
     }
+}
 
+impl Kind {
     // The operands that the kind uses.
+    #[tactic(auto, unfolding(crate::specs::Act::uses))]
     fn uses(self) -> Uses
         ensures { result ≡ uses self }
     {
@@ -43,6 +47,7 @@ impl Kind {
     }
 
     // The bounds of the kind's operands. The caller shows that X is in range.
+    #[tactic(auto, unfolding(crate::specs::Act::operand_bounds))]
     pub fn operand_bounds(self, limits: Limits) -> Bounds
         requires { max_leader_epoch_of limits ≤ 15 }
         ensures { result ≡ operand_bounds limits self }
@@ -61,31 +66,24 @@ impl Uses {
     fn of(a: bool, b: bool, e: bool) -> Uses
         ensures { result ≡ use_of a b e }
     {
-        Uses { a: a, b: b, e: e }
+        Uses { a, b, e }
     }
 }
 
 // The bound of an operand: its own where it is used, and 1, so that it is 0, where it is not.
+#[tactic(auto, unfolding(crate::specs::Act::operand_bound))]
 fn operand_bound(used: bool, bound: u8) -> u8
     ensures { result ≡ operand_bound used bound }
 {
-    if used {
-        return bound;
-    }
-    1
+    if used { bound } else { 1 }
 }
 
 // Whether the operands of an action fit. The caller shows that X is in range.
+#[tactic(auto, unfolding(crate::specs::Act::operands_fit, logic::specs::Tests::every))]
 pub(crate) fn operands_fit(limits: Limits, action: Action) -> bool
     requires { max_leader_epoch_of limits ≤ 15 }
     ensures { result ≡ operands_fit limits action }
 {
-    let bounds = Kind::of(action.kind).operand_bounds(limits);
-    if bounds.a <= action.a {
-        return false;
-    }
-    if bounds.b <= action.b {
-        return false;
-    }
-    action.e < bounds.e
+    let bounds = Kind::from(action.kind).operand_bounds(limits);
+    action.a < bounds.a && action.b < bounds.b && action.e < bounds.e
 }

@@ -11,18 +11,18 @@ mod leadership;
 mod requests;
 pub mod rules;
 mod tidy;
+mod valid;
 
-ghost use Rattle.std.specs.Prelude.{◌≡◌, ◌+◌, ◌≤◌, length};
+ghost use Rattle.std.specs.Prelude.{◌≡◌, ◌+◌, ◌≤◌, length, IfOk};
+ghost use Rattle.parts.specs.Refusal.{answer_number};
+ghost use Rattle.cluster.specs.Answer.{outcome_of};
 ghost use Rattle.cluster.specs.State.{limits_at, zero_state, tidy};
 ghost use Rattle.cluster.specs.Rules.{state_refusal};
 ghost use Rattle.cluster.specs.Fresh.{fresh};
 
-use parts::Leader;
-use parts::refusal::{
-    ACCEPTED, BAD_CONFIGURATION, BREAKS_S1, BREAKS_S2, BREAKS_S3, BREAKS_S4, BREAKS_S5, BREAKS_S6,
-    BREAKS_S7,
-};
+use parts::refusal::Refusal;
 use replica::Replica;
+pub use valid::ValidState;
 
 // A configuration: R replicas, logs of L records, M record ids, leader epochs 0 to X.
 #[derive(Clone, Copy)]
@@ -37,14 +37,14 @@ pub struct Limits {
 #[derive(Clone, Copy)]
 pub struct Quorum {
     pub epoch: i8,
-    pub leader: Leader,
+    pub leader: Option<u8>,
     pub isr: u8,
 }
 
 // The LeaderAndIsr request of one epoch; its place among the requests is the epoch.
 #[derive(Clone, Copy)]
 pub struct Request {
-    pub leader: Leader,
+    pub leader: Option<u8>,
     pub isr: u8,
 }
 
@@ -111,20 +111,18 @@ pub enum MemberTest {
     HasOffset,
 }
 
-// What an action answers: a number, 0 for accepted; beside 48 and 49 the smallest member of the ISR with that fault, else 0; and
-// the next state, or the state as given where it is refused.
+// A refused action: why, beside 48 and 49 the smallest member of the ISR with that fault, and the state as given.
 #[derive(Clone, Copy)]
-pub struct ActionAnswer {
-    pub refusal: u8,
-    pub member: u8,
+pub struct RefusedAction {
+    pub refusal: Refusal,
+    pub member: Option<u8>,
     pub state: State,
 }
 
-// What a fresh state, a reading, a renaming and a representative answer: a number, 0 for accepted, and the state that goes
-// with it.
+// A refused fresh state, reading, renaming or representative: why, and the state that goes with it.
 #[derive(Clone, Copy)]
-pub struct Outcome {
-    pub refusal: u8,
+pub struct Refused {
+    pub refusal: Refusal,
     pub state: State,
 }
 
@@ -146,11 +144,6 @@ impl State {
     pub fn zero() -> State
         ensures { result ≡ zero_state }
     {
-        let none = Request {
-            leader: Leader::None,
-            isr: 0,
-        };
-        let replica = Replica::zero();
         State {
             limits: Limits {
                 replica_count: 0,
@@ -162,43 +155,44 @@ impl State {
             next_record_id: 0,
             quorum: Quorum {
                 epoch: 0,
-                leader: Leader::None,
+                leader: None,
                 isr: 0,
             },
-            requests: [none; 16],
-            replicas: [replica; 5],
+            requests: [Request {
+                leader: None,
+                isr: 0,
+            }; 16],
+            replicas: [Replica::zero(); 5],
         }
     }
 
-    // The fresh state of a configuration; 22 and zeros where R, L, M or X is out of range.
-    pub fn fresh(limits: Limits) -> Outcome
-        ensures { result ≡ fresh limits }
+    // The fresh state of a configuration; refused, all zeros, where R, L, M or X is out of range.
+    #[tactic(auto, using(crate::specs::RuleLaws::ranges_of, crate::specs::FreshLaws::fresh_out))]
+    pub fn fresh(limits: Limits) -> Result<State, Refused>
+        ensures { outcome_of result ≡ fresh limits }
     {
-        let zero = State::zero();
         if !rules::limits_in_range(limits) {
-            return Outcome {
-                refusal: BAD_CONFIGURATION,
-                state: zero,
-            };
+            return Err(Refused {
+                refusal: Refusal::BadConfiguration,
+                state: State::zero(),
+            });
         }
-        let quorum = Quorum {
-            epoch: -1,
-            leader: Leader::None,
-            isr: parts::full_isr(limits.replica_count),
-        };
         // A fresh replica in all five places; tidying puts zeros past the count.
-        let mut replica = Replica::zero();
-        replica.epoch = -1;
-        let replicas = [replica; 5];
-        let mut all = zero;
-        all.limits = limits;
-        all.quorum = quorum;
-        all.replicas = replicas;
-        let state = tidy::tidy_replicas(all);
-        Outcome {
-            refusal: ACCEPTED,
-            state: state,
-        }
+        let replica = Replica {
+            epoch: -1,
+            ..Replica::zero()
+        };
+        let all = State {
+            limits,
+            quorum: Quorum {
+                epoch: -1,
+                leader: None,
+                isr: parts::full_isr(limits.replica_count),
+            },
+            replicas: [replica; 5],
+            ..State::zero()
+        };
+        Ok(tidy::tidy_replicas(all))
     }
 
     // The state with zeros in its unused room.
@@ -208,32 +202,34 @@ impl State {
         tidy::tidy_replicas(tidy::tidy_requests(self))
     }
 
-    // The refusal of a state: the number of the first state rule that it breaks, 41 to 47 for S1 to S7; 0 where it breaks none.
-    // Where it breaks some and S1 to S6 hold, it is that of S7.
-    pub fn state_refusal(self) -> u8
-        ensures { result ≡ state_refusal self }
+    // The state as one that meets the rules; refused by the first state rule that it breaks, S1 to S7. Where it breaks some and S1 to S6
+    // hold, it is S7.
+    #[tactic(auto, using(crate::specs::RuleLaws::bounded_of, crate::specs::RuleLaws::logs_bounded_of, crate::specs::RuleLaws::met_refusal, crate::specs::RuleLaws::only_seventh), unfolding(crate::specs::Rules::state_refusal, logic::specs::Refuse::refuse_unless, logic::specs::Refuse::refuse))]
+    pub fn validate(self) -> Result<ValidState, Refusal>
+        ensures number { answer_number result ≡ state_refusal self }
+        ensures state { IfOk result (λ valid. valid.state ≡ self) }
     {
         if rules::meets_rules(self) {
-            return ACCEPTED;
+            return Ok(ValidState::new(self));
         }
         if !rules::rule_1(self) {
-            return BREAKS_S1;
+            return Err(Refusal::BreaksS1);
         }
         if !rules::rule_2(self) {
-            return BREAKS_S2;
+            return Err(Refusal::BreaksS2);
         }
         if !rules::rule_3(self) {
-            return BREAKS_S3;
+            return Err(Refusal::BreaksS3);
         }
         if !rules::rule_4(self) {
-            return BREAKS_S4;
+            return Err(Refusal::BreaksS4);
         }
         if !rules::rule_5(self) {
-            return BREAKS_S5;
+            return Err(Refusal::BreaksS5);
         }
         if !rules::rule_6(self) {
-            return BREAKS_S6;
+            return Err(Refusal::BreaksS6);
         }
-        BREAKS_S7
+        Err(Refusal::BreaksS7)
     }
 }

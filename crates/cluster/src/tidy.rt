@@ -5,8 +5,8 @@ ghost use Rattle.logic.specs.Table.{table};
 ghost use Rattle.cluster.specs.State.{zero_request, with_requests, with_replicas, tidy_request_at, tidy_replica_at};
 
 use crate::{Request, State};
-use parts::Leader;
 use replica::Replica;
+use std::array;
 
 // The request where its epoch e is below the next one, else zeros.
 fn tidy_request(q: Request, e: usize, next: u8) -> Request
@@ -16,7 +16,7 @@ fn tidy_request(q: Request, e: usize, next: u8) -> Request
         q
     } else {
         Request {
-            leader: Leader::None,
+            leader: None,
             isr: 0,
         }
     }
@@ -38,14 +38,7 @@ pub(crate) fn tidy_requests(s: State) -> State
     ensures { result ≡ with_requests s (table 16 (tidy_request_at s)) }
 {
     let mut t = s;
-    let next = s.next_leader_epoch;
-    let mut e: usize = 0;
-    while e < 16 {
-        let q = s.requests[e];
-        let kept = tidy_request(q, e, next);
-        t.requests[e] = kept;
-        e = e + 1;
-    }
+    t.requests = array::from_fn(|e| tidy_request(s.requests[e], e, s.next_leader_epoch));
     t
 }
 
@@ -54,14 +47,6 @@ pub(crate) fn tidy_replicas(s: State) -> State
     ensures { result ≡ with_replicas s (table 5 (tidy_replica_at s)) }
 {
     let mut t = s;
-    let limits = s.limits;
-    let count = limits.replica_count;
-    let mut i: usize = 0;
-    while i < 5 {
-        let p = s.replicas[i];
-        let kept = tidy_replica(p, i, count);
-        t.replicas[i] = kept;
-        i = i + 1;
-    }
+    t.replicas = array::from_fn(|i| tidy_replica(s.replicas[i], i, s.limits.replica_count));
     t
 }

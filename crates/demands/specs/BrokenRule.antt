@@ -11,8 +11,8 @@ use Rattle.logic.specs.Refuse.{first_refusal, refuse, by_number, listed, listed_
 use Rattle.parts.specs.Refusal.{accepted, buffer_short, not_renaming}
 use Rattle.cluster.specs.declared.State.{State}
 use Rattle.cluster.specs.declared.Action.{Action}
-use Rattle.cluster.specs.declared.ActionAnswer.{ActionAnswer}
-use Rattle.cluster.specs.declared.Outcome.{Outcome}
+use Rattle.cluster.specs.Answer.{ActionAnswer}
+use Rattle.cluster.specs.Answer.{Outcome}
 use Rattle.cluster.specs.State.{replica_count_of}
 use Rattle.cluster.specs.Outcome.{answer, as_given}
 use Rattle.cluster.specs.Rules.{rule_tests, rules, state_refusal, state_numbers}
@@ -21,12 +21,12 @@ use Rattle.cluster.specs.Act.{refusal, act}
 use Rattle.actions.specs.Answers.{action_numbers, act_number, act_unmet}
 use Rattle.actions.proofs.ActionNumbers.{met_listed}
 use Rattle.questions.specs.declared.Property.{Property}
-use Rattle.questions.specs.declared.OfferAnswer.{OfferAnswer}
+use Rattle.questions.specs.Answer.{OfferAnswer}
 use Rattle.questions.specs.Isr.{ask_isr}
 use Rattle.questions.specs.IsrTheorems.{isr_number}
 use Rattle.questions.specs.Offer.{offer}
 use Rattle.questions.specs.OfferTheorems.{offer_broken, offer_broken_is}
-use Rattle.images.specs.declared.Written.{Written}
+use Rattle.images.specs.Answer.{Written}
 use Rattle.images.specs.Image.{image, written, write_refusal, write_image}
 use Rattle.renamings.specs.Names.{is_renaming}
 use Rattle.renamings.specs.Rename.{renamed, rename_refusal, rename}

@@ -5,26 +5,24 @@
 --   NamesBehindWidth state n     of bytes that come as a state: n is the number at place k exactly where they are 226, and the rule at
 --                                place k is the first that their state breaks
 --   InterfaceNamesRule           so is the number of every C function that takes a state
-use Rattle.std.specs.Prelude.{ℕ, zero, suc, ◌<◌, ◌≡◌, refl, Bool, true, false, List, ◌↔◌, ltb, eqb, length, get_or}
-use Rattle.std.proofs.Common.{sym, ap, ◌∙◌, subst, arith, le-ltb}
+use Rattle.std.specs.Prelude.{ℕ, suc, ◌<◌, ◌≡◌, refl, Bool, true, false, List, ◌↔◌, ltb, eqb, length, get_or}
+use Rattle.std.proofs.Common.{sym, ap, ◌∙◌, arith, le-ltb}
 use Rattle.std.proofs.Math.Decide.{ℕ_discrete}
 use Rattle.logic.specs.Tests.{refuted_iff}
-use Rattle.logic.specs.Refuse.{FailsFirst, refuse, listed, listed_at, listed_not, refuse_none, first_refusal, by_accepted, by_refused}
+use Rattle.logic.specs.Refuse.{FailsFirst, refuse, listed, listed_at, listed_not, refuse_none, by_accepted, by_refused}
 use Rattle.parts.specs.Refusal.{accepted, not_renaming, breaks_s1, breaks_s2, breaks_s3, breaks_s4, breaks_s5, breaks_s6, breaks_s7}
 use Rattle.cluster.specs.declared.State.{State}
 use Rattle.cluster.specs.Rules.{rule_tests, state_refusal, state_numbers}
 use Rattle.cluster.specs.Predicates.{S1, S2, S3, S4, S5, S6, S7, rule1_iff, rule2_iff, rule3_iff, rule4_iff, rule5_iff, rule6_iff, rule7_iff}
 use Rattle.cluster.specs.Act.{action_of, act}
 use Rattle.questions.specs.declared.Property.TheVariants.{WeakIsr, StrongIsr}
-use Rattle.questions.specs.Isr.{ask_isr, weak_isr, strong_isr}
+use Rattle.questions.specs.Isr.{weak_isr, strong_isr}
 use Rattle.questions.specs.Offer.{offer}
-use Rattle.renamings.specs.Rename.{rename}
 use Rattle.representatives.specs.Representative.{represent}
-use Rattle.images.specs.Image.{image}
 use Rattle.flat.specs.Flat.{flat_width, state_of_flat}
 use Rattle.replay.specs.Interface.{Reply, refuses, gives, number, reply_by, state_reply, outcome_reply, action_reply, isr_reply, offer_reply, image_reply, rename_by, width_refusal, on_state, replay_act, replay_weak, replay_strong, replay_offer, replay_write_image, replay_rename, replay_representative}
 use Rattle.replay.specs.InterfaceLaws.{width_right, on-state, on_state_refused}
-use Rattle.demands.specs.BrokenRule.{NamesRule, AllNameRule, all_name_rule, state_names_rule, behind_names_rule}
+use Rattle.demands.specs.BrokenRule.{NamesRule, all_name_rule, state_names_rule, behind_names_rule}
 
 -- ---- the rules as predicates
 -- an answer has the number of a rule exactly where the state breaks that rule and meets every one before it

@@ -3,11 +3,10 @@
 -- hw, epoch, leader, ISR, end and 16 records of id and epoch. The epochs of the quorum, the replicas and the records are two's
 -- complement bytes, and the next epoch is unsigned. A leader is 0 for none and i + 1 for replica i. Unused room is part of it.
 -- Assumes nothing.
-use Rattle.std.specs.Prelude.{ℕ, zero, suc, ◌+◌, ◌*◌, cond, List, [], ◌∷◌, ◌++◌, ltb, drop}
+use Rattle.parts.specs.Leader.{Leader}
+use Rattle.std.specs.Prelude.{ℕ, zero, suc, ◌+◌, ◌*◌, cond, List, [], ◌∷◌, ◌++◌, ltb, drop, None, Some}
 use Rattle.logic.specs.Table.{table}
 use Rattle.logic.specs.Concat.{concat_below}
-use Rattle.parts.specs.declared.Leader.{Leader}
-use Rattle.parts.specs.declared.Leader.TheVariants.{None, Some}
 use Rattle.parts.specs.Epoch.{epoch_byte, epoch_of_byte}
 use Rattle.parts.specs.Mark.{byte_at}
 use Rattle.replica.specs.declared.Record.{Record}

@@ -1,8 +1,7 @@
 -- Laws of the flat form, for the functions that read and write it. Assumes nothing.
-use Rattle.std.specs.Prelude.{ℕ, zero, suc, ◌+◌, ◌-◌, ◌*◌, ◌≡◌, refl, List, length, drop}
+use Rattle.std.specs.Prelude.{ℕ, zero, suc, ◌+◌, ◌-◌, ◌*◌, ◌≡◌, refl, List, length, drop, Some}
 use Rattle.std.proofs.Common.{sym, ◌∙◌, ap, arith, length-append, drop-drop}
 use Rattle.logic.specs.Concat.{concat_below, concat_width}
-use Rattle.parts.specs.declared.Leader.TheVariants.{Some}
 use Rattle.replica.specs.declared.Replica.{Replica}
 use Rattle.replica.specs.ReplicaBytes.{head_width, log_record_width, record_bytes_at, record_of}
 use Rattle.cluster.specs.declared.State.{State}

@@ -9,14 +9,13 @@
 --   state_back                 a state that Flattens comes back from its flat form
 --   flattens_tidy              the tidy form of a state that meets the rules Flattens
 --   answer_back                so a tidy state that meets the rules comes back from its flat form
-use Rattle.std.specs.Prelude.{ℕ, zero, suc, ◌+◌, ◌*◌, ◌≤◌, ◌<◌, ◌≡◌, refl, Bool, true, false, cond, List, [], ◌∷◌, ◌++◌, ltb, ℤ, pos, length, take, drop, get_or}
+use Rattle.parts.specs.Leader.{Leader}
+use Rattle.std.specs.Prelude.{ℕ, zero, suc, ◌+◌, ◌*◌, ◌≤◌, ◌<◌, ◌≡◌, refl, Bool, true, false, cond, List, [], ◌∷◌, ◌++◌, ltb, ℤ, pos, length, take, drop, get_or, None, Some}
 use Rattle.std.proofs.Common.{sym, ◌∙◌, ap, ap₂, append_assoc, append-nil, arith, mul_comm, mul-le-mul_left, length-drop, take-add, take_all, drop_at, drop-drop, lt-ltb, le-ltb}
 use Rattle.std.proofs.Math.Decide.{ℕ_discrete, dec_lt}
 use Rattle.std.proofs.lemmas.List.{length-replicate, get_or-replicate}
 use Rattle.logic.specs.Table.{table, table_from, length_table, get_d_table, ext_table, cond_true}
 use Rattle.logic.specs.Concat.{concat_below, concat_width}
-use Rattle.parts.specs.declared.Leader.{Leader}
-use Rattle.parts.specs.declared.Leader.TheVariants.{None, Some}
 use Rattle.parts.specs.Mark.{byte_at}
 use Rattle.parts.specs.ByteLaws.{SmallEpoch, SmallLeader, epoch_back, epoch_byte_back, last_small}
 use Rattle.parts.specs.Bytes.{Bytes, bytes_drop, front_bytes}

@@ -13,7 +13,7 @@ use Rattle.cluster.specs.declared.Request.{Request}
 use Rattle.cluster.specs.declared.State.{State}
 use Rattle.cluster.specs.State.{replica_count_of, log_size_of, max_records_of, max_leader_epoch_of, next_leader_epoch_of, next_record_id_of, request_at, replica_at}
 use Rattle.cluster.specs.Rules.{state_refusal}
-use Rattle.images.specs.declared.Written.{Written}
+use Rattle.images.specs.Answer.{Written}
 
 -- ---- the second byte of the mark, 4B 53
 abbrev pub mark_second : ℕ

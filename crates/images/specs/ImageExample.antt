@@ -1,9 +1,7 @@
 -- The image that the paper prints: that of the last state of its first run. Assumes nothing.
-use Rattle.std.specs.Prelude.{ℕ, ◌≡◌, refl, [], ◌∷◌, pos, replicate, set}
+use Rattle.std.specs.Prelude.{ℕ, ◌≡◌, refl, [], ◌∷◌, pos, replicate, set, Some}
 use Rattle.logic.specs.Concat.{concat_below}
-use Rattle.parts.specs.declared.Leader.TheVariants.{Some}
 use Rattle.parts.specs.Epoch.{epoch_byte}
-use Rattle.parts.specs.Leader.{leader_byte}
 use Rattle.replica.specs.declared.Replica.{Replica}
 use Rattle.replica.specs.Replica.{replica_of, zero_record, zero_replica}
 use Rattle.cluster.specs.declared.State.{State}
@@ -25,5 +23,5 @@ paper_state =
 -- "4B530304040301010007000700000007010000000000070100000000000700"
 pub paper_image : image paper_state
     ≡ 75 ∷ 83 ∷ 3 ∷ 4 ∷ 4 ∷ 3 ∷ 1 ∷ 1 ∷ 0 ∷ 7 ∷ 0 ∷ 7 ∷ 0 ∷ 0 ∷ 0 ∷ 7 ∷ 1 ∷ 0 ∷ 0 ∷ 0 ∷ 0 ∷ 0 ∷ 7 ∷ 1 ∷ 0 ∷ 0 ∷ 0 ∷ 0 ∷ 0 ∷ 7 ∷ 0 ∷ []
-unfolding paper_replica paper_state concat_below log_bytes requests_bytes replica_bytes replicas_bytes image leader_byte epoch_byte
+unfolding paper_replica paper_state concat_below log_bytes requests_bytes replica_bytes replicas_bytes image epoch_byte
 paper_image = refl

@@ -24,7 +24,7 @@ use Rattle.replica.specs.Replica.{SameReplica}
 use Rattle.replica.specs.ReplicaBytes.{record_bytes, record_bytes_at}
 use Rattle.cluster.specs.declared.Limits.{Limits}
 use Rattle.cluster.specs.declared.State.{State}
-use Rattle.cluster.specs.declared.Outcome.{Outcome}
+use Rattle.cluster.specs.Answer.{Outcome}
 use Rattle.cluster.specs.State.{replica_count_of, next_leader_epoch_of, replica_at, Same, tidy, zero_state}
 use Rattle.cluster.specs.Rules.{rules, state_refusal, state_numbers}
 use Rattle.cluster.specs.Equality.{same_sym, tidy_same, same_iff_tidy}
@@ -32,7 +32,7 @@ use Rattle.cluster.specs.Unused.{rules_same, state_refusal_same}
 use Rattle.cluster.specs.Outcome.{answer, with_zeros}
 use Rattle.cluster.specs.RuleLaws.{rules_bounded, rules_logs_bounded, state_listed}
 use Rattle.images.specs.Image.{request_bytes, request_bytes_at, requests_bytes, log_bytes, replica_head, replica_bytes, replica_bytes_at, replicas_bytes, header_bytes, image, write_image, buffer_after}
-use Rattle.images.specs.declared.Written.{Written}
+use Rattle.images.specs.Answer.{Written}
 use Rattle.images.specs.WriteLaws.{Writes, writes_broken, writes_short, writes_all}
 use Rattle.images.specs.Read.{Parsed, missing, end_above, parsed, finished, body_of, read_body, read_image, header_refusal, refusal_of}
 use Rattle.images.specs.ReadLaws.{header_numbers, header_listed, read_number, finished_number}

@@ -1,12 +1,10 @@
 -- "The longest is 227 bytes": an image that has them. Assumes nothing.
-use Rattle.std.specs.Prelude.{ℕ, ◌≡◌, refl, true, pos, length, replicate}
+use Rattle.std.specs.Prelude.{ℕ, ◌≡◌, refl, true, pos, length, replicate, Some}
 use Rattle.logic.specs.Tests.{all_below, every}
 use Rattle.logic.specs.Table.{table, table_from}
 use Rattle.logic.specs.Concat.{concat_below}
-use Rattle.parts.specs.declared.Leader.TheVariants.{Some}
 use Rattle.parts.specs.Isr.{member, isr_below, full_isr}
 use Rattle.parts.specs.Epoch.{same_epoch, last_epoch, epoch_used}
-use Rattle.parts.specs.Leader.{names, same_leader, leader_below, leader_none_or_in_isr}
 use Rattle.replica.specs.declared.Record.{Record}
 use Rattle.replica.specs.declared.Replica.{Replica}
 use Rattle.replica.specs.Replica.{replica_of}
@@ -36,7 +34,7 @@ full_state =
     state_of full_limits 16 16 (record { epoch = pos 15; leader = Some 0; isr = 31 }) (replicate 16 full_request) (replicate 5 full_replica)
 
 pub full_meets_rules : rules full_state ≡ true
-unfolding full_record full_replica full_request full_limits full_state table table_from all_below every member isr_below full_isr same_epoch last_epoch epoch_used names same_leader leader_below leader_none_or_in_isr record_in_use log_in_use records_agree record_agrees logs_agree between in_range rule1 leader_and_isr_in_range replica_in_range rule2 quorum_matches_request rule3 rule4 replica_matches_request replica_meets_s5 rule5 rule6 agrees_with_all rule7 rules
+unfolding full_record full_replica full_request full_limits full_state table table_from all_below every member isr_below full_isr same_epoch last_epoch epoch_used record_in_use log_in_use records_agree record_agrees logs_agree between in_range rule1 leader_and_isr_in_range replica_in_range rule2 quorum_matches_request rule3 rule4 replica_matches_request replica_meets_s5 rule5 rule6 agrees_with_all rule7 rules
 full_meets_rules = refl
 
 pub full_length : length (image full_state) ≡ 227

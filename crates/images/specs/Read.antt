@@ -13,7 +13,7 @@ use Rattle.replica.specs.Replica.{replica_of, zero_record, zero_replica, with_lo
 use Rattle.replica.specs.ReplicaBytes.{head_width, log_record_width, record_of}
 use Rattle.cluster.specs.declared.Request.{Request}
 use Rattle.cluster.specs.declared.State.{State}
-use Rattle.cluster.specs.declared.Outcome.{Outcome}
+use Rattle.cluster.specs.Answer.{Outcome}
 use Rattle.cluster.specs.State.{limits_of, replica_count_of, log_size_of, next_leader_epoch_of, zero_request, state_of, with_requests, with_replicas}
 use Rattle.cluster.specs.Outcome.{answer, with_zeros}
 use Rattle.cluster.specs.Rules.{in_range, rule1, state_refusal}

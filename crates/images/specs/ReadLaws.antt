@@ -14,15 +14,17 @@
 --   HeaderInRange bs                  the first ten bytes are there, with the mark and with numbers that meet S1
 --   header_in_range, header_sizes     they are so where they are not refused; S1 as bounds of these numbers
 --   header_numbers, header_listed     the numbers that the first ten bytes may give beside 0; they give no other
+--   end_behind                        where the end of a replica stands
 --   replica_missing .. replica_whole  a replica: its first five bytes missing, its end above L, its log missing, or all there
 --   ReplicaFits l bs at               the replica at this place has all its bytes, and its end is at most l
 --   replica_fits                      it is so where the replica is not refused
 --   body_short .. body_room           what follows the first ten bytes: missing requests, or all of them and then the replicas
 --   body_sizes                        S1 of the state that it gives is S1 of the first ten bytes
---   layout_header, layout_body        the refusal of an image by its bytes is that of the first ten, then that of the parts
+--   layout_header .. layout_replicas  the refusal of an image by its bytes is that of the first ten, then that of the parts
 --   LaidOut bs, laid_out              neither of the two refuses; it is so where the image is not refused by its bytes
---   read_refused                      an image that is refused by its bytes
---   read_met, read_unmet              one whose parts are all there: its state, or the number of the first rule that this breaks
+--   PartsThere bs, parts_there        what that says: the parts are there, and R, L and the next epoch are in range
+--   read_refused, read_unlaid         an image that is refused by its bytes
+--   read_met, read_unmet, read_broken one whose parts are all there: its state, or the number of the first rule that this breaks
 --   read_number, finished_number      the number that reading gives, by the first ten bytes, by what follows them, by the state
 use Prim.Native.Nat.{ℕ, zero, suc, ◌+◌, ◌*◌, ◌-◌, ◌≤◌, ◌<◌}
 use Rattle.std.specs.Prelude.{◌≡◌, true, not, leb, ltb, length, set, replicate}
@@ -32,22 +34,25 @@ use Rattle.std.proofs.Math.Bool.{Bool}
 use mathlib.Core.List.{List, [], ◌∷◌}
 use Rattle.std.proofs.Math.Nat.{mul-zero, mul-suc}
 use Rattle.std.proofs.Math.Decide.{ℕ_discrete, dec_lt}
-use Rattle.std.proofs.Math.ListN.{drop, length-drop}
+use Rattle.std.proofs.Math.ListN.{drop, length-drop, get_or}
 use Rattle.std.proofs.Math.Seq.{drop-drop}
 use Rattle.std.proofs.lemmas.Bool.{lt-leb, not-false}
 use Rattle.logic.specs.Refuse.{refuse, refuse_other, first_refusal, first_yes, first_no, by_refusal, by_accepted, by_refused, by_number, by_first, listed, listed_refuse}
 use Rattle.logic.specs.Table.{cond_true, cond_false}
-use Rattle.parts.specs.Refusal.{accepted, wrong_mark, too_short, bad_configuration, left_over, breaks_s1, breaks_s2}
+use Rattle.parts.specs.declared.refusal.Refusal.{Refusal}
+use Rattle.parts.specs.Refusal.{refusal_number, accepted, wrong_mark, too_short, bad_configuration, left_over, breaks_s1, breaks_s2}
+use Rattle.parts.specs.Bytes.{byte-at}
 use Rattle.parts.specs.Mark.{byte_at, marked}
 use Rattle.replica.specs.declared.Replica.{Replica}
 use Rattle.replica.specs.Replica.{with_log}
 use Rattle.replica.specs.ReplicaBytes.{head_width, log_record_width, record_of}
 use Rattle.cluster.specs.declared.State.{State}
-use Rattle.cluster.specs.declared.Outcome.{Outcome}
+use Rattle.cluster.specs.Answer.{Outcome}
 use Rattle.cluster.specs.State.{limits_of, next_leader_epoch_of, next_record_id_of, zero_request, with_requests, with_replicas}
 use Rattle.cluster.specs.Rules.{in_range, rule1, state_refusal}
 use Rattle.cluster.specs.RuleLaws.{Sizes, sizes_of}
 use Rattle.cluster.specs.Outcome.{answer, with_zeros}
+use Rattle.images.specs.Answer.{refuses_not_zero}
 use Rattle.images.specs.Image.{mark_second, header_width, request_width}
 use Rattle.images.specs.Read.{Parsed, missing, end_above, parsed, refusal_of, and_then, part, fill, fill_in, read_record, request_of, read_request, replica_of_head, read_requests, read_replicas, header_state, read_log, read_log_within, read_replica, header_refusal, finished, read_body, read_image}
 use Rattle.images.specs.Layout.{whole_refusal, replicas_at, body_of, layout_refusal, part_at, stored_below, requests_of, replica_length, replica_with_log, replicas_place}
@@ -292,6 +297,10 @@ header_listed bs =
     listed_by _ too_short _ refl (listed_by _ wrong_mark _ refl (listed_by _ bad_configuration _ refl (listed_by _ breaks_s1 _ refl refl)))
 
 -- ---- a replica: its first five bytes, its end, its log
+-- where its end stands
+pub end_behind : (bs : List ℕ) (at : ℕ) → byte_at (drop at bs) 4 ≡ get_or bs (at + 4) 0
+end_behind bs at = byte-at bs at 4
+
 module _ (l : ℕ) (bs : List ℕ) (at : ℕ) where
   replica-head : at + head_width ≤ length bs
       → read_replica l (drop at bs) ≡ read_log_within l (replica_of_head (drop at bs)) (drop head_width (drop at bs))
@@ -428,6 +437,12 @@ module _ (bs : List ℕ) where
   unfolding layout_refusal
   layout_body e = first_no (header_refusal bs) (whole_refusal (body_of bs)) e
 
+  pub layout_short : header_refusal bs ≡ accepted → length bs < replicas_place bs → too_short ≡ layout_refusal bs
+  layout_short e k = body_short (header_in_range bs e).long k ∙ layout_body e
+
+  pub layout_replicas : header_refusal bs ≡ accepted → replicas_place bs ≤ length bs → whole_refusal (replicas_at bs (replicas_place bs)) ≡ layout_refusal bs
+  layout_replicas e k = body_replicas k ∙ layout_body e
+
   -- an image whose parts are all there
   pub record LaidOut : Type 0 where
     pub header : header_refusal bs ≡ accepted
@@ -439,6 +454,30 @@ module _ (bs : List ℕ) where
         | yes q ↦ record { header = q; body = layout_body q ∙ h }
         | no q ↦ absurd (q (layout_header (header_refusal bs) refl q ∙ h))
       ]
+
+  -- what it says of its bytes: the first ten, the requests and the replicas are there, and R, L and the next epoch are in range
+  pub record PartsThere : Type 0 where
+    pub header : header_width ≤ length bs
+    pub replicas : byte_at bs 2 ≤ 5
+    pub log : byte_at bs 3 ≤ 16
+    pub requests : byte_at bs 6 ≤ 16
+    pub room : replicas_place bs ≤ length bs
+    pub whole : whole_refusal (replicas_at bs (replicas_place bs)) ≡ accepted
+
+  pub parts_there : layout_refusal bs ≡ accepted → PartsThere
+  parts_there h =
+      let laid = laid_out h in
+      let header = header_in_range bs laid.header in
+      let z = header_sizes bs header in
+      let room = body_room header.long laid.body in
+      record {
+        header = header.long;
+        replicas = z.ranges.replicas;
+        log = z.ranges.log;
+        requests = omega (arith, z.epochs, z.ranges.epochs);
+        room = room;
+        whole = body_replicas room ∙ laid.body;
+      }
 
   -- any other image is refused, with an all-zero state
   finished_by : (m : Parsed State) → (whole_refusal m ≡ accepted → ⊥) → with_zeros (whole_refusal m) ≡ finished m
@@ -459,6 +498,9 @@ module _ (bs : List ℕ) where
             ap with_zeros (e ∙ sym (layout_header (header_refusal bs) refl q)) ∙ by_refused (header_refusal bs) with_zeros (finished (body_of bs)) q
       ]
 
+  pub read_unlaid : (r : Refusal) → refusal_number r ≡ layout_refusal bs → with_zeros (refusal_number r) ≡ read_image bs
+  read_unlaid r e = read_refused (refusal_number r) e (refuses_not_zero r)
+
   -- where all parts are there, the state rules decide
   module _ (s : State) (laid : layout_refusal bs ≡ accepted) (is : body_of bs ≡ parsed s []) where
     read_state : by_refusal (state_refusal s) with_zeros (answer accepted s) ≡ read_image bs
@@ -471,6 +513,9 @@ module _ (bs : List ℕ) where
 
     pub read_unmet : (state_refusal s ≡ accepted → ⊥) → with_zeros (state_refusal s) ≡ read_image bs
     read_unmet h = by_refused (state_refusal s) with_zeros (answer accepted s) h ∙ read_state
+
+    pub read_broken : (r : Refusal) → refusal_number r ≡ state_refusal s → with_zeros (refusal_number r) ≡ read_image bs
+    read_broken r e = ap with_zeros e ∙ read_unmet (λ z. refuses_not_zero r (e ∙ z))
 
 -- ---- the number that reading gives
 -- that of the first ten bytes, and then that of what follows them

@@ -10,18 +10,16 @@
 --   Accepted bs s                       what an accepted reading of bs as s went through
 --   read_meets_rules                    what is read meets the rules
 --   read_is_image                       bytes that are read are the image of what is read
-use Rattle.std.specs.Prelude.{ℕ, ◌^◌, ◌≤◌, ◌<◌, ◌≡◌, refl, Bool, true, false, not, cond, List, [], ◌∷◌, ◌++◌, eqb, leb, ltb, ℤ, pos, negsuc, length, drop, replicate}
+use Rattle.std.specs.Prelude.{ℕ, ◌^◌, ◌≤◌, ◌<◌, ◌≡◌, refl, Bool, true, false, not, cond, List, [], ◌∷◌, ◌++◌, eqb, leb, ltb, ℤ, pos, negsuc, length, drop, replicate, None, Some}
 use Rattle.std.proofs.Common.{sym, ◌∙◌, ap, subst, append-nil, arith, leb-true, le-leb, le-ltb, eqb-true}
 use Rattle.logic.specs.Tests.{every_at, and_left, and_right}
 use Rattle.logic.specs.Refuse.{refuse_none, by_accepted, by_zero}
 use Rattle.logic.specs.Table.{table, table_from, cond_true}
 use Rattle.logic.specs.Concat.{concat_below}
-use Rattle.parts.specs.declared.Leader.{Leader}
-use Rattle.parts.specs.declared.Leader.TheVariants.{None, Some}
 use Rattle.parts.specs.Refusal.{accepted, wrong_mark, too_short, bad_configuration, left_over, breaks_s1, breaks_s2}
 use Rattle.parts.specs.IsrLaws.{below_32}
 use Rattle.parts.specs.Epoch.{epoch_byte, epoch_of_byte, last_epoch}
-use Rattle.parts.specs.Leader.{leader_byte, leader_of_byte}
+use Rattle.parts.specs.Leader.{Leader, leader_byte, leader_of_byte}
 use Rattle.parts.specs.ByteLaws.{SmallEpoch, SmallLeader, epoch_back, epoch_byte_back, leader_back, leader_byte_back}
 use Rattle.parts.specs.Bytes.{Bytes, bytes_none, bytes_more, bytes_append, bytes_concat, bytes_behind, front_and_rest}
 use Rattle.parts.specs.Mark.{byte_at, mark_first, marked}
@@ -32,7 +30,7 @@ use Rattle.replica.specs.ReplicaBytes.{head_width, log_record_width, record_byte
 use Rattle.replica.specs.ReplicaBytesLaws.{SmallReplica}
 use Rattle.cluster.specs.declared.Request.{Request}
 use Rattle.cluster.specs.declared.State.{State}
-use Rattle.cluster.specs.declared.Outcome.{Outcome}
+use Rattle.cluster.specs.Answer.{Outcome}
 use Rattle.cluster.specs.State.{replica_count_of, log_size_of, next_leader_epoch_of, next_record_id_of, zero_request, request_at, replica_at, state_of, with_requests, with_replicas, tidy_request_at, tidy_replica_at, tidy}
 use Rattle.cluster.specs.Rules.{in_range, rule1_tests, rule1, rule_tests, rules, state_refusal}
 use Rattle.cluster.specs.RuleLaws.{rules_bounded, refusal_met, met_refusal}
@@ -101,7 +99,6 @@ epoch_byte_small (pos e) h = omega arith
 epoch_byte_small (negsuc k) h = omega arith
 
 leader_byte_small : (l : Leader) → SmallLeader l → leader_byte l < 256
-unfolding leader_byte
 leader_byte_small None h = omega arith
 leader_byte_small (Some b) h = omega (arith, h b refl)
 

@@ -5,13 +5,14 @@ use Rattle.std.proofs.Common.{sym, ◌∙◌, ap, arith, length-append, length-d
 use Rattle.std.proofs.Math.ListN.{drop}
 use Rattle.logic.specs.Tests.{every}
 use Rattle.logic.specs.Refuse.{refuse_yes, refuse_zero, refuse_none, first_yes, first_no, first_zero, first_none, by_refusal, by_accepted, by_refused, by_number, listed, listed_refuse, listed_first, listed_within}
-use Rattle.parts.specs.Refusal.{accepted, buffer_short}
+use Rattle.parts.specs.declared.refusal.Refusal.{Refusal}
+use Rattle.parts.specs.Refusal.{refusal_number, accepted, buffer_short}
 use Rattle.cluster.specs.declared.Request.{Request}
 use Rattle.cluster.specs.declared.State.{State}
 use Rattle.cluster.specs.State.{request_in}
 use Rattle.cluster.specs.Rules.{rules, state_refusal, state_numbers}
-use Rattle.cluster.specs.RuleLaws.{met_refusal, broken_refusal, state_listed}
-use Rattle.images.specs.declared.Written.{Written}
+use Rattle.cluster.specs.RuleLaws.{met_refusal, broken_refusal, refusal_broken, state_listed}
+use Rattle.images.specs.Answer.{Written, refuses_not_zero}
 use Rattle.images.specs.Image.{request_bytes, image, write_refusal, written, write_image, buffer_after}
 
 -- the bytes of request e of these
@@ -35,6 +36,10 @@ module _ (s : State) (buffer : List ℕ) where
   pub writes_broken : rules s ≡ false → Writes s buffer (written (state_refusal s) 0) buffer
   unfolding write_refusal
   writes_broken h = writes_refused (state_refusal s) (broken_refusal s h) (first_yes (state_refusal s) _ (broken_refusal s h))
+
+  -- as the code says it
+  pub writes_refusal : (r : Refusal) → refusal_number r ≡ state_refusal s → Writes s buffer (written (refusal_number r) 0) buffer
+  writes_refusal r e = rw e (writes_broken (refusal_broken s (λ z. refuses_not_zero r (e ∙ z))))
 
   module _ (h : rules s ≡ true) where
     pub writes_short : length buffer < length (image s) → Writes s buffer (written buffer_short 0) buffer

@@ -2,9 +2,10 @@
 // parts that are there. A function of the first step that takes a place asks of its caller that the place is in the bytes, one of
 // the second that the bytes of its part are.
 ghost use Rattle.std.specs.Prelude.{◌≡◌, [], ◌+◌, ◌*◌, ◌≤◌, length, drop};
-ghost use Rattle.parts.specs.Refusal.{accepted};
+ghost use Rattle.parts.specs.Refusal.{accepted, refusal_number, answer_number};
 ghost use Rattle.parts.specs.Mark.{byte_at};
 ghost use Rattle.replica.specs.ReplicaBytes.{head_width, log_record_width};
+ghost use Rattle.cluster.specs.Answer.{outcome_of};
 ghost use Rattle.cluster.specs.Outcome.{with_zeros};
 ghost use Rattle.images.specs.Image.{header_width, request_width};
 ghost use Rattle.images.specs.Read.{parsed, refusal_of, request_of, replica_of_head, read_replica, header_refusal};
@@ -14,11 +15,9 @@ use crate::{
     HEADER_WIDTH, LOG_SIZE_PLACE, MARK_SECOND, NEXT_EPOCH_PLACE, NEXT_ID_PLACE, QUORUM_ISR_PLACE,
     QUORUM_LEADER_PLACE, REPLICA_COUNT_PLACE, REQUEST_WIDTH,
 };
-use cluster::{Outcome, Quorum, Request, State, rules};
-use parts::refusal::{
-    ACCEPTED, BAD_CONFIGURATION, BREAKS_S1, BREAKS_S2, LEFT_OVER, TOO_SHORT, WRONG_MARK,
-};
-use parts::{Leader, mark};
+use cluster::{Quorum, Refused, Request, State, rules};
+use parts::mark;
+use parts::refusal::Refusal;
 use replica::bytes::{END_PLACE, HEAD_WIDTH, LOG_RECORD_WIDTH, record_of};
 use replica::{Record, Replica};
 
@@ -30,11 +29,8 @@ fn log_of(bytes: &[u8], at: usize, count: usize) -> [Record; 16]
     ensures { result ≡ log_records_of count (drop at bytes.now) }
 {
     let mut log = [Record { id: 0, epoch: 0 }; 16];
-    let mut x: usize = 0;
-    while x < count {
-        let r = record_of(bytes, at + LOG_RECORD_WIDTH * x);
-        log[x] = r;
-        x = x + 1;
+    for x in 0..count {
+        log[x] = record_of(bytes, at + LOG_RECORD_WIDTH * x);
     }
     log
 }
@@ -44,9 +40,8 @@ fn request_of(bytes: &[u8], at: usize) -> Request
     requires { at + request_width ≤ length bytes.now }
     ensures { result ≡ request_of (drop at bytes.now) }
 {
-    let leader = Leader::of_byte(bytes[at]);
     Request {
-        leader: leader,
+        leader: parts::leader_of_byte(bytes[at]),
         isr: bytes[at + 1],
     }
 }
@@ -57,16 +52,12 @@ fn requests_of(bytes: &[u8], count: usize) -> [Request; 16]
     requires count_in_bounds { header_width + request_width * count ≤ length bytes.now }
     ensures { result ≡ requests_of count (drop header_width bytes.now) }
 {
-    let none = Request {
-        leader: Leader::None,
+    let mut requests = [Request {
+        leader: None,
         isr: 0,
-    };
-    let mut requests = [none; 16];
-    let mut e: usize = 0;
-    while e < count {
-        let q = request_of(bytes, HEADER_WIDTH + REQUEST_WIDTH * e);
-        requests[e] = q;
-        e = e + 1;
+    }; 16];
+    for e in 0..count {
+        requests[e] = request_of(bytes, HEADER_WIDTH + REQUEST_WIDTH * e);
     }
     requests
 }
@@ -76,16 +67,13 @@ fn replica_of_head(bytes: &[u8], at: usize) -> Replica
     requires { at + head_width ≤ length bytes.now }
     ensures { result ≡ replica_of_head (drop at bytes.now) }
 {
-    let epoch = parts::epoch_of_byte(bytes[at + 1]);
-    let leader = Leader::of_byte(bytes[at + 2]);
-    let log = [Record { id: 0, epoch: 0 }; 16];
     Replica {
         hw: bytes[at],
-        epoch: epoch,
-        leader: leader,
+        epoch: parts::epoch_of_byte(bytes[at + 1]),
+        leader: parts::leader_of_byte(bytes[at + 2]),
         isr: bytes[at + 3],
         end: bytes[at + END_PLACE],
-        log: log,
+        ..Replica::zero()
     }
 }
 
@@ -95,57 +83,54 @@ fn replica_of(bytes: &[u8], at: usize) -> Replica
     requires bytes_in_bounds { at + replica_length (drop at bytes.now) ≤ length bytes.now }
     ensures { result ≡ replica_with_log (drop at bytes.now) }
 {
-    let mut p = replica_of_head(bytes, at);
-    let log = log_of(bytes, at + HEAD_WIDTH, p.end as usize);
-    p.log = log;
-    p
+    let head = replica_of_head(bytes, at);
+    Replica {
+        log: log_of(bytes, at + HEAD_WIDTH, head.end as usize),
+        ..head
+    }
 }
 
-// The refusal of a replica, whose end is tested before its log; 0 where it is there. The caller shows that the place is in the
-// bytes.
-fn replica_refusal(bytes: &[u8], at: usize, log_size: u8) -> u8
+// Whether a replica is there; its end is tested before its log. The caller shows that the place is in the bytes.
+#[tactic(auto, using(crate::specs::ReadLaws::replica_missing, crate::specs::ReadLaws::replica_above, crate::specs::ReadLaws::replica_short, crate::specs::ReadLaws::replica_whole, crate::specs::ReadLaws::end_behind), unfolding(crate::specs::Read::refusal_of))]
+fn check_replica(bytes: &[u8], at: usize, log_size: u8) -> Result<(), Refusal>
     requires { at ≤ length bytes.now }
-    ensures { result ≡ refusal_of (read_replica log_size (drop at bytes.now)) }
+    ensures { answer_number result ≡ refusal_of (read_replica log_size (drop at bytes.now)) }
 {
     if bytes.len() - at < HEAD_WIDTH {
-        return TOO_SHORT;
+        return Err(Refusal::TooShort);
     }
     let end = bytes[at + END_PLACE];
     if log_size < end {
-        return BREAKS_S2;
+        return Err(Refusal::BreaksS2);
     }
     if bytes.len() - at < HEAD_WIDTH + LOG_RECORD_WIDTH * (end as usize) {
-        return TOO_SHORT;
+        return Err(Refusal::TooShort);
     }
-    ACCEPTED
+    Ok(())
 }
 
-// The refusal of the replicas, the last part of an image; 0 where all are there and nothing is left over. The caller shows that the
-// first ten bytes are there, and that the place is in the bytes.
-fn replicas_refusal(bytes: &[u8], at: usize) -> u8
+// Whether the replicas, the last part of an image, are all there and nothing is left over. The caller shows that the first ten bytes
+// are there, and that the place is in the bytes.
+#[tactic(auto, using(crate::specs::ReadLaws::filling_over, crate::specs::ReadLaws::filling_all, crate::specs::ReadLaws::replica_fits, crate::specs::ReadLaws::end_behind))]
+fn check_replicas(bytes: &[u8], at: usize) -> Result<(), Refusal>
     requires header_width_in_bounds { header_width ≤ length bytes.now }
     requires at_in_bounds { at ≤ length bytes.now }
-    ensures { result ≡ whole_refusal (replicas_at bytes.now at) }
+    ensures { answer_number result ≡ whole_refusal (replicas_at bytes.now at) }
 {
     let count = bytes[REPLICA_COUNT_PLACE];
     let log_size = bytes[LOG_SIZE_PLACE];
     let mut pos = at;
-    let mut i: u8 = 0;
-    while i < count {
-        let refusal = replica_refusal(bytes, pos, log_size);
-        if refusal != ACCEPTED {
-            return refusal;
-        }
-        pos = pos + HEAD_WIDTH + LOG_RECORD_WIDTH * (bytes[pos + END_PLACE] as usize);
-        i = i + 1;
+    for _ in 0..count {
+        check_replica(bytes, pos, log_size)?;
+        pos += HEAD_WIDTH + LOG_RECORD_WIDTH * (bytes[pos + END_PLACE] as usize);
     }
     if pos < bytes.len() {
-        return LEFT_OVER;
+        return Err(Refusal::LeftOver);
     }
-    ACCEPTED
+    Ok(())
 }
 
-// The replicas. The caller shows what `replicas_refusal` asks, that it answers 0, and that R is at most 5 and L at most 16.
+// The replicas. The caller shows what `check_replicas` asks, that it accepts them, and that R is at most 5 and L at most 16.
 fn replicas_of(bytes: &[u8], at: usize) -> [Replica; 5]
     requires header_width_in_bounds { header_width ≤ length bytes.now }
     requires at_in_bounds { at ≤ length bytes.now }
@@ -155,88 +140,78 @@ fn replicas_of(bytes: &[u8], at: usize) -> [Replica; 5]
     ensures { replicas_at bytes.now at ≡ parsed result [] }
 {
     let count = bytes[REPLICA_COUNT_PLACE] as usize;
-    let zero = Replica::zero();
-    let mut replicas = [zero; 5];
+    let mut replicas = [Replica::zero(); 5];
     let mut pos = at;
-    let mut i: usize = 0;
-    while i < count {
-        let p = replica_of(bytes, pos);
-        replicas[i] = p;
-        pos = pos + HEAD_WIDTH + LOG_RECORD_WIDTH * (p.end as usize);
-        i = i + 1;
+    for p in &mut replicas[..count] {
+        *p = replica_of(bytes, pos);
+        pos += HEAD_WIDTH + LOG_RECORD_WIDTH * (p.end as usize);
     }
     replicas
 }
 
-// The refusal by the first ten bytes; 0 where they are in range.
-fn header_refusal(bytes: &[u8]) -> u8
-    ensures { result ≡ header_refusal bytes.now }
+// Whether the first ten bytes are there and in range.
+#[tactic(auto, unfolding(crate::specs::Read::header_refusal, logic::specs::Refuse::refuse))]
+fn check_header(bytes: &[u8]) -> Result<(), Refusal>
+    ensures { answer_number result ≡ header_refusal bytes.now }
 {
     if bytes.len() < HEADER_WIDTH {
-        return TOO_SHORT;
+        return Err(Refusal::TooShort);
     }
     if !mark::is_marked(bytes, MARK_SECOND) {
-        return WRONG_MARK;
+        return Err(Refusal::WrongMark);
     }
-    let c = cluster::limits_at(bytes, mark::WIDTH);
-    if !rules::limits_in_range(c) {
-        return BAD_CONFIGURATION;
+    let limits = cluster::limits_at(bytes, mark::WIDTH);
+    if !rules::limits_in_range(limits) {
+        return Err(Refusal::BadConfiguration);
     }
-    if !rules::sizes_in_range(c, bytes[NEXT_EPOCH_PLACE], bytes[NEXT_ID_PLACE]) {
-        return BREAKS_S1;
+    if !rules::sizes_in_range(limits, bytes[NEXT_EPOCH_PLACE], bytes[NEXT_ID_PLACE]) {
+        return Err(Refusal::BreaksS1);
     }
-    ACCEPTED
+    Ok(())
 }
 
-// A refusal, with the all-zero state.
-pub(crate) fn refused(number: u8) -> Outcome
-    ensures { result ≡ with_zeros number }
+// A refused reading, with the all-zero state.
+pub(crate) fn refused(refusal: Refusal) -> Refused
+    ensures { outcome_of (Err result) ≡ with_zeros (refusal_number refusal) }
 {
-    let zero = State::zero();
-    Outcome {
-        refusal: number,
-        state: zero,
+    Refused {
+        refusal,
+        state: State::zero(),
     }
 }
 
-// The refusal of an image by its bytes: by the first ten, and then by a part that is missing, an end above L or bytes left over. 0
-// where its parts are all there; whether the state meets the other rules is not asked.
-pub fn layout_refusal(bytes: &[u8]) -> u8
-    ensures { result ≡ layout_refusal bytes.now }
+// Whether the parts of an image are all there. Refused by the first ten bytes, and then by a part that is missing, an end above L or
+// bytes left over; whether the state meets the other rules is not asked.
+#[tactic(auto, using(crate::specs::ReadLaws::header_in_range, crate::specs::ReadLaws::layout_header, crate::specs::ReadLaws::layout_short, crate::specs::ReadLaws::layout_replicas))]
+pub fn check_layout(bytes: &[u8]) -> Result<(), Refusal>
+    ensures { answer_number result ≡ layout_refusal bytes.now }
 {
-    let refusal = header_refusal(bytes);
-    if refusal != ACCEPTED {
-        return refusal;
-    }
+    check_header(bytes)?;
     let replicas = HEADER_WIDTH + REQUEST_WIDTH * (bytes[NEXT_EPOCH_PLACE] as usize);
     if bytes.len() < replicas {
-        return TOO_SHORT;
+        return Err(Refusal::TooShort);
     }
-    replicas_refusal(bytes, replicas)
+    check_replicas(bytes, replicas)
 }
 
-// The state of an image, with zeros in its unused room. The caller, one of our own crates, shows that `layout_refusal` is 0.
+// The state of an image, with zeros in its unused room. The caller, one of our own crates, shows that `check_layout` accepts it.
+#[tactic(auto, using(crate::specs::ReadLaws::parts_there, crate::specs::ReadLaws::body_state), unfolding(crate::specs::Read::header_state))]
 pub fn state_of(bytes: &[u8]) -> State
     requires { layout_refusal bytes.now ≡ accepted }
     ensures { body_of bytes.now ≡ parsed result [] }
 {
-    let limits = cluster::limits_at(bytes, mark::WIDTH);
-    let next = bytes[NEXT_EPOCH_PLACE];
-    let epoch = parts::last_epoch(next);
-    let leader = Leader::of_byte(bytes[QUORUM_LEADER_PLACE]);
-    let quorum = Quorum {
-        epoch: epoch,
-        leader: leader,
-        isr: bytes[QUORUM_ISR_PLACE],
-    };
-    let requests = requests_of(bytes, next as usize);
-    let replicas = replicas_of(bytes, HEADER_WIDTH + REQUEST_WIDTH * (next as usize));
+    let next_leader_epoch = bytes[NEXT_EPOCH_PLACE];
+    let count = next_leader_epoch as usize;
     State {
-        limits: limits,
-        next_leader_epoch: next,
+        limits: cluster::limits_at(bytes, mark::WIDTH),
+        next_leader_epoch,
         next_record_id: bytes[NEXT_ID_PLACE],
-        quorum: quorum,
-        requests: requests,
-        replicas: replicas,
+        quorum: Quorum {
+            epoch: parts::last_epoch(next_leader_epoch),
+            leader: parts::leader_of_byte(bytes[QUORUM_LEADER_PLACE]),
+            isr: bytes[QUORUM_ISR_PLACE],
+        },
+        requests: requests_of(bytes, count),
+        replicas: replicas_of(bytes, HEADER_WIDTH + REQUEST_WIDTH * count),
     }
 }

@@ -5,7 +5,7 @@
 --   passing_start .. passing_end   the turns of a loop over lists of entries
 --   agree_alike                    with no id met at its start, the pass over Storable entries goes through exactly where all are alike
 --   in_concat, in_some             the lists put together have exactly the entries that are in one of them
-use Rattle.std.specs.Prelude.{ℕ, zero, suc, ◌+◌, ◌-◌, ◌≤◌, ◌<◌, ◌≡◌, Bool, ◌&&◌, ◌||◌, cond, List, [], ◌∷◌, ◌++◌, ◌↔◌, ◌⊎◌, set, replicate}
+use Rattle.std.specs.Prelude.{ℕ, zero, suc, ◌+◌, ◌-◌, ◌≤◌, ◌<◌, ◌≡◌, Bool, ◌||◌, cond, List, [], ◌∷◌, ◌++◌, ◌↔◌, ◌⊎◌, set, replicate}
 use Rattle.std.proofs.Math.Path.{refl, sym, ap}
 use Rattle.std.proofs.Common.{◌∙◌, subst, inl, inr, add-zero, arith}
 use Rattle.std.proofs.Math.Bool.{true, false}
@@ -17,7 +17,7 @@ use Rattle.std.proofs.Math.Seq.{get_or-set_same, get_or-set_other}
 use borrow.Author.Tests.{eqb-true, eq-eqb, ne_eqb}
 use Rattle.logic.specs.Tests.{and_both, and_left, and_right, and_yes, either, true_false}
 use Rattle.logic.specs.Concat.{concat_below, concat_none, concat_more}
-use Rattle.logic.specs.Entries.{Alike, Entry, In, InSome, Passed, Storable, agree_all, entry, meets, note_all, noted, value_in}
+use Rattle.logic.specs.Entries.{Alike, Entry, In, InSome, Passed, Storable, agree_all, meets, note_all, noted, value_in}
 
 -- ---- one entry: its id was not met, or it was
 pub passed_new : (t : List ℕ) (e : Entry) → value_in t e ≡ 0 → Passed t (e ∷ []) true (set t e.id e.value)

@@ -9,7 +9,7 @@
 --   first_triple_found             the triple that three nested loops stop at is the one that the search finds
 --   first_triple_cong              searches of the same bounds whose tests answer alike find the same
 use Prim.Native.Nat.{ℕ, zero, suc, ◌+◌, ◌≤◌, ◌<◌}
-use Rattle.std.specs.Prelude.{◌≡◌, Bool, true, false, cond, ◌⊎◌}
+use Rattle.std.specs.Prelude.{◌≡◌, Bool, true, false, cond}
 use Rattle.std.proofs.Math.Path.{refl, subst}
 use Rattle.std.proofs.Common.{sym, ◌∙◌, ap, ap₂, inl, inr, add-one, arith}
 use Rattle.std.proofs.Math.Option.{Option, none, some, or_else, some-injective, some-ne-none}

@@ -1,4 +1,5 @@
-// Bytes put at a place of a lent buffer; the place behind them is answered.
+// Bytes put at a place of a lent buffer; the place behind them is answered. The place goes beside the whole buffer, since a clause says
+// that what stands before it stays.
 ghost use Rattle.std.specs.Prelude.{◌+◌, ◌≤◌, length};
 ghost use Rattle.logic.specs.Stores.{Stored};
 
@@ -7,10 +8,7 @@ pub fn put_bytes(out: &mut [u8], at: usize, bytes: &[u8]) -> usize
     requires { at + length bytes.now ≤ length out.old }
     ensures { Stored out.old at bytes.now out.new result }
 {
-    let mut i: usize = 0;
-    while i < bytes.len() {
-        out[at + i] = bytes[i];
-        i = i + 1;
-    }
-    at + i
+    let end = at + bytes.len();
+    out[at..end].copy_from_slice(bytes);
+    end
 }

@@ -9,7 +9,7 @@
 --   follow_iff            BecomeFollowerAndTruncateTo with any truncation offset holds exactly where FollowStep does
 --   become_follower_iff   with a's high watermark as the offset, it holds exactly where the engine accepts kind 3 and v is the
 --                         meaning of its next state
-use Rattle.std.specs.Prelude.{ℕ, ◌≤◌, ◌<◌, min, ◌≡◌, true, ◌↔◌, ◌≢◌, ◌⊎◌, pos}
+use Rattle.std.specs.Prelude.{ℕ, ◌≤◌, ◌<◌, min, ◌≡◌, true, ◌↔◌, ◌≢◌, ◌⊎◌, pos, None, Some}
 use Rattle.std.proofs.Math.Path.{refl, sym, ap}
 use Rattle.std.proofs.Common.{◌∙◌, subst, inl, inr, arith}
 use Rattle.std.proofs.Math.Option.{Option, none, some, none-ne-some, some-injective}
@@ -17,8 +17,6 @@ use Rattle.std.proofs.Math.Logic.Iff
 use borrow.Author.Tests.{lt-ltb, ltb-true}
 use Rattle.logic.specs.Tests.{refuted_iff}
 use Rattle.logic.specs.Refuse.{refuse_zero, refuse_none}
-use Rattle.parts.specs.declared.Leader.{Leader}
-use Rattle.parts.specs.declared.Leader.TheVariants.{None, Some}
 use Rattle.parts.specs.Refusal.{accepted}
 use Rattle.parts.specs.Isr.{member}
 use Rattle.parts.specs.EpochLaws.{pos_injective}
@@ -27,7 +25,7 @@ use Rattle.replica.specs.declared.Replica.{Replica}
 use Rattle.replica.specs.Replica.{tidy_replica}
 use Rattle.replica.specs.ReplicaLaws.{tidy_replica_same}
 use Rattle.replica.specs.Change.{with_hw, with_end, with_request, truncate_to, truncate_under, become_follower_and_truncate_to}
-use Rattle.parts.specs.Leader.{names}
+use Rattle.parts.specs.Leader.{Leader, names}
 use Rattle.cluster.specs.declared.State.{State}
 use Rattle.cluster.specs.State.{replica_count_of, next_leader_epoch_of, request_at, replica_at}
 use Rattle.cluster.specs.Actions.{leader_refusal, become_leader_refusal, lead_by, become_leader, become_follower_refusal, become_follower_at, become_follower_and_truncate_to_hw}

@@ -8,6 +8,7 @@
 --                                   quorum replaced
 --   put_only_iff                    the same where the next id and the quorum stay
 --   controller_iff                  the same of a new quorum at the next epoch, added to the requests
+use Rattle.parts.specs.Leader.{Leader}
 use Rattle.std.specs.Prelude.{ℕ, ◌+◌, ◌<◌, ◌≡◌, refl, ◌↔◌, eqb, pos, set}
 use Rattle.std.proofs.Math.Path.{sym, ap}
 use Rattle.std.proofs.Common.{◌∙◌}
@@ -18,7 +19,6 @@ use Rattle.std.proofs.Math.ListN.{length}
 use borrow.Author.Tests.{ltb-true, eq-eqb, ne_eqb}
 use Rattle.logic.specs.Lists.{each_set}
 use Rattle.logic.specs.Table.{cond_true, cond_false}
-use Rattle.parts.specs.declared.Leader.{Leader}
 use Rattle.replica.specs.declared.Replica.{Replica}
 use Rattle.replica.specs.Replica.{no_replica}
 use Rattle.cluster.specs.declared.Limits.{Limits}

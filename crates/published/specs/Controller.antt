@@ -7,16 +7,14 @@
 --   controller_shrink_iff   ControllerShrinkIsr of a holds exactly where ShrinkStep does
 --   ElectStep a             the engine accepts kind 1 of a, and v is the meaning of its next state
 --   elect_iff               ControllerElectLeader of a holds exactly where ElectStep does
-use Rattle.std.specs.Prelude.{ℕ, ◌≡◌, refl, Bool, ◌↔◌}
+use Rattle.std.specs.Prelude.{ℕ, ◌≡◌, refl, Bool, ◌↔◌, None, Some}
 use Rattle.std.proofs.Common.{sym, ◌∙◌, inl, inr, arith}
 use Rattle.std.proofs.Math.Bool.{true, false}
 use Rattle.std.proofs.Math.Option.{some}
 use Rattle.logic.specs.Tests.{refuted_iff}
-use Rattle.parts.specs.declared.Leader.{Leader}
-use Rattle.parts.specs.declared.Leader.TheVariants.{None, Some}
 use Rattle.parts.specs.Refusal.{accepted}
 use Rattle.parts.specs.Isr.{member, without, is_alone}
-use Rattle.parts.specs.Leader.{names}
+use Rattle.parts.specs.Leader.{Leader, names}
 use Rattle.parts.specs.LeaderLaws.{names_iff}
 use Rattle.cluster.specs.declared.State.{State}
 use Rattle.cluster.specs.State.{next_leader_epoch_of, controller_update_isr}

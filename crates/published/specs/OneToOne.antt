@@ -6,13 +6,12 @@
 --   record_of_injective   records that mean the same are equal
 --   one_to_one            two states of one configuration that meet S1 to S7 mean the same exactly when they are equal
 --   means_tidy            a state of the model is the meaning of s exactly where it is that of the tidy form of s
-use Rattle.std.specs.Prelude.{ℕ, ◌<◌, ◌≡◌, refl, true, ◌↔◌, ℤ, pos}
+use Rattle.parts.specs.Leader.{Leader}
+use Rattle.std.specs.Prelude.{ℕ, ◌<◌, ◌≡◌, refl, true, ◌↔◌, ℤ, pos, None, Some}
 use Rattle.std.proofs.Common.{sym, ◌∙◌, arith}
 use Rattle.std.proofs.Math.Path.{ap}
 use Rattle.std.proofs.Math.Option.{none-ne-some, some-injective}
 use borrow.Author.Tests.{lt-ltb, ltb-true}
-use Rattle.parts.specs.declared.Leader.{Leader}
-use Rattle.parts.specs.declared.Leader.TheVariants.{None, Some}
 use Rattle.parts.specs.IsrLaws.{below_32}
 use Rattle.parts.specs.EpochLaws.{pos_injective}
 use Rattle.replica.specs.declared.Record.{Record}

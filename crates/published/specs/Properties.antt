@@ -1,12 +1,11 @@
 -- The answers on weak and strong ISR are the published properties WeakIsr and StrongIsr, of every state that meets S1 to S7.
 -- Assumes nothing.
-use Rattle.std.specs.Prelude.{ℕ, ◌^◌, ◌<◌, ◌≡◌, refl, Bool, ◌↔◌, ◌⊎◌}
+use Rattle.std.specs.Prelude.{ℕ, ◌^◌, ◌<◌, ◌≡◌, refl, Bool, ◌↔◌, ◌⊎◌, Some}
 use Rattle.std.proofs.Common.{sym, ◌∙◌, ap, arith, lt-ltb, ltb-true}
 use Rattle.std.proofs.Math.Bool.{true, false}
 use Rattle.std.proofs.Math.Logic.{inl, inr}
 use Rattle.std.proofs.Math.Logic.Iff
 use Rattle.logic.specs.Tests.{refuted_iff}
-use Rattle.parts.specs.declared.Leader.TheVariants.{Some}
 use Rattle.parts.specs.Isr.{member}
 use Rattle.parts.specs.Leader.{names}
 use Rattle.parts.specs.LeaderLaws.{names_iff}

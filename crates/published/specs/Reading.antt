@@ -14,7 +14,7 @@
 --   passes_iff                it holds exactly where the engine's test does
 --   members_pass_iff          of every member of a's ISR it holds exactly where the engine's members_pass does
 --   member_fails_iff          of some member it does not hold exactly where members_pass does not
-use Rattle.std.specs.Prelude.{ℕ, ◌-◌, ◌≤◌, ◌<◌, ◌≡◌, refl, Bool, false, ◌↔◌, T, pos, ◌<ℤ◌}
+use Rattle.std.specs.Prelude.{ℕ, ◌-◌, ◌≤◌, ◌<◌, ◌≡◌, refl, Bool, false, ◌↔◌, T, pos, ◌<ℤ◌, Some}
 use Rattle.std.proofs.Common.{sym, ◌∙◌, subst}
 use Rattle.std.proofs.Math.Path.{ap}
 use Rattle.std.proofs.Math.Bool.{true, not}
@@ -24,12 +24,10 @@ use native.Mathlib.Omega.{arith}
 use Rattle.std.proofs.Math.Decide.{ℕ_discrete}
 use borrow.Author.Tests.{lt-ltb, ltb-true, le-leb, leb-true, not-false}
 use Rattle.logic.specs.Tests.{every_at, every_and, every_none, and_left, and_right, and_both, true_false, implied, implies, refuted_iff, all_at, all_by}
-use Rattle.parts.specs.declared.Leader.{Leader}
-use Rattle.parts.specs.declared.Leader.TheVariants.{Some}
 use Rattle.parts.specs.Isr.{member}
 use Rattle.parts.specs.IsrLaws.{member_within}
 use Rattle.parts.specs.EpochLaws.{higher_is, same_epoch_true, same_epoch_by}
-use Rattle.parts.specs.Leader.{names}
+use Rattle.parts.specs.Leader.{Leader, names}
 use Rattle.parts.specs.LeaderLaws.{names_iff}
 use Rattle.cluster.specs.declared.State.{State}
 use Rattle.cluster.specs.declared.MemberTest.{MemberTest}

@@ -1,12 +1,11 @@
 -- The fresh state of an accepted configuration is the one state by Init; LeaderInIsr fails there, for there is no leader yet.
 -- In every state that meets S1 to S7 the leader of the quorum and of each request is none or in the ISR there. Assumes nothing.
-use Rattle.std.specs.Prelude.{ℕ, ◌<◌, ◌≡◌, refl, true, ◌↔◌, ◌⊎◌, ℤ, pos}
+use Rattle.parts.specs.Leader.{Leader}
+use Rattle.std.specs.Prelude.{ℕ, ◌<◌, ◌≡◌, refl, true, ◌↔◌, ◌⊎◌, ℤ, pos, None, Some}
 use Rattle.std.proofs.Common.{sym, ◌∙◌, subst, inl, inr, arith, ltb-true}
 use Rattle.std.proofs.Math.Path.{ap}
 use Rattle.std.proofs.Math.Option.{none, some, none-ne-some}
 use Rattle.std.proofs.Math.Logic.Iff
-use Rattle.parts.specs.declared.Leader.{Leader}
-use Rattle.parts.specs.declared.Leader.TheVariants.{None, Some}
 use Rattle.parts.specs.Refusal.{accepted}
 use Rattle.parts.specs.Isr.{member}
 use Rattle.replica.specs.declared.Replica.{Replica}

@@ -7,15 +7,14 @@
 --   rules_type_ok               TypeOk holds of the meaning of every state that meets S1 to S7
 --   log_record_ok               each record of a log of such a state is one of LogRecords
 --   type_ok_same                TypeOk holds of a state of the model where it holds of an equal one
-use Rattle.std.specs.Prelude.{ℕ, ◌+◌, ◌≤◌, ◌<◌, ◌≡◌, refl, true, ◌↔◌, ◌⊎◌, ℤ, pos, negsuc}
+use Rattle.parts.specs.Leader.{Leader}
+use Rattle.std.specs.Prelude.{ℕ, ◌+◌, ◌≤◌, ◌<◌, ◌≡◌, refl, true, ◌↔◌, ◌⊎◌, ℤ, pos, negsuc, None, Some}
 use Rattle.std.proofs.Common.{sym, ◌∙◌, ap, inl, inr, arith}
 use Rattle.std.proofs.Math.Path.{subst}
 use Rattle.std.proofs.Math.Option
 use Rattle.std.proofs.Math.Option.{none-ne-some}
 use Rattle.std.proofs.Math.Decide.{dec_lt}
 use borrow.Author.Tests.{lt-ltb, ltb-true}
-use Rattle.parts.specs.declared.Leader.{Leader}
-use Rattle.parts.specs.declared.Leader.TheVariants.{None, Some}
 use Rattle.parts.specs.Isr.{member}
 use Rattle.parts.specs.IsrLaws.{member_within}
 use Rattle.parts.specs.EpochLaws.{pos_injective, negsuc_injective, pos_negsuc, last_used, last_low}

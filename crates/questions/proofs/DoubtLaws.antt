@@ -12,7 +12,7 @@
 --   request_kept, hw_raised                    what is read after kinds 2 and 7 is there: request e, and a high watermark above 0
 --   cut_exposed                                NoMoreExposed of every replica after kind 3, whatever the offset
 --   kind_exposed                               NoMoreExposed of every replica after an accepted action of any kind but 2 and 7
-use Rattle.std.specs.Prelude.{ℕ, ◌+◌, ◌-◌, ◌≤◌, ◌<◌, min, ◌≡◌, Bool, not, ◌&&◌, ◌||◌, cond, ◌⊎◌, ℤ, pos, length, set}
+use Rattle.std.specs.Prelude.{ℕ, ◌+◌, ◌-◌, ◌≤◌, ◌<◌, min, ◌≡◌, Bool, not, ◌&&◌, ◌||◌, cond, ◌⊎◌, ℤ, pos, length, set, None, Some}
 use Rattle.std.proofs.Math.Path.{refl}
 use Rattle.std.proofs.Common.{sym, ◌∙◌, ap, get_or-set_same, get_or-set_other, eqb-true, eq-eqb, lt-ltb}
 use Rattle.std.proofs.Math.Bool.{true, false}
@@ -23,11 +23,9 @@ use Rattle.std.proofs.Math.Dec.{eqb}
 use Rattle.logic.specs.Tests.{and_left, and_no, or_yes, true_false}
 use Rattle.logic.specs.Lists.{each_set}
 use Rattle.parts.specs.Refusal.{accepted}
-use Rattle.parts.specs.declared.Leader.{Leader}
-use Rattle.parts.specs.declared.Leader.TheVariants.{None, Some}
 use Rattle.parts.specs.Isr.{member, full_isr, without, including, is_alone}
 use Rattle.parts.specs.IsrLaws.{member_none, member_full, member_below, member_without, member_including, stays_including}
-use Rattle.parts.specs.Leader.{names}
+use Rattle.parts.specs.Leader.{Leader, names}
 use Rattle.parts.specs.LeaderLaws.{names_iff, some-injective}
 use Rattle.replica.specs.declared.Record.{Record}
 use Rattle.replica.specs.declared.Replica.{Replica}

@@ -11,14 +11,13 @@
 --   holds_after_cut                            holds_after for kind 3, whatever offset the log is cut to
 --   cut_exposes_no_more, cut_exposes_no_other  kind 3 exposes no more, and no other record id, whatever the offset
 --   act_holds_after                            holds_after for any state that accepts the action, tidy or not
-use Rattle.std.specs.Prelude.{ℕ, ◌≤◌, ◌<◌, ◌≡◌, Bool, ◌||◌, cond, ◌↔◌, ◌⊎◌}
+use Rattle.std.specs.Prelude.{ℕ, ◌≤◌, ◌<◌, ◌≡◌, Bool, ◌||◌, cond, ◌↔◌, ◌⊎◌, Some}
 use Rattle.std.proofs.Math.Path.{refl}
 use Rattle.std.proofs.Common.{sym, ◌∙◌, ap, inl, inr, arith, le-ltb, ltb-false}
 use Rattle.std.proofs.Math.Bool.{true, false}
 use Rattle.std.proofs.Math.Dec.{ltb}
 use Rattle.logic.specs.Tests.{all_at, all_by, either, bool_ext}
 use Rattle.parts.specs.Refusal.{accepted}
-use Rattle.parts.specs.declared.Leader.TheVariants.{Some}
 use Rattle.parts.specs.Isr.{member}
 use Rattle.parts.specs.LeaderLaws.{names_iff}
 use Rattle.replica.specs.declared.Record.{Record}
@@ -40,7 +39,7 @@ use Rattle.actions.specs.Sound.{Sound, sound_of}
 use Rattle.actions.specs.Kinds.{become_follower_at_sound}
 use Rattle.actions.specs.Kept.{Kept, effect_kept}
 use Rattle.questions.specs.declared.Property.{Property}
-use Rattle.questions.specs.declared.IsrAnswer.{IsrAnswer}
+use Rattle.questions.specs.Answer.{IsrAnswer}
 use Rattle.questions.specs.declared.doubt.Doubt.{Doubt}
 use Rattle.questions.specs.Isr.{isr_asked, ask_isr}
 use Rattle.questions.specs.IsrLaws.{below_cond, asked_of}

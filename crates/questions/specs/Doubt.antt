@@ -1,9 +1,8 @@
 -- What an action leaves in doubt: for which leaders, members and offsets weak or strong ISR, where it held before the action, may
 -- fail after it. The judge asks about these alone. Assumes nothing.
-use Rattle.std.specs.Prelude.{ℕ, ◌-◌, ◌≤◌, ◌<◌, ◌≡◌, Bool, true, false, ◌||◌, cond, eqb, ltb}
+use Rattle.parts.specs.Leader.{Leader}
+use Rattle.std.specs.Prelude.{ℕ, ◌-◌, ◌≤◌, ◌<◌, ◌≡◌, Bool, true, false, ◌||◌, cond, eqb, ltb, None, Some}
 use Rattle.logic.specs.Tests.{all_below}
-use Rattle.parts.specs.declared.Leader.{Leader}
-use Rattle.parts.specs.declared.Leader.TheVariants.{None, Some}
 use Rattle.parts.specs.Isr.{member, without, including}
 use Rattle.replica.specs.declared.Replica.{Replica}
 use Rattle.replica.specs.Log.{hold_same_record}

@@ -1,10 +1,10 @@
 -- The loops that test what is in doubt take a few numbers out of the state, and go by these. Assumes nothing.
-use Rattle.std.specs.Prelude.{ℕ, ◌≤◌, ◌<◌, ◌≡◌, Bool, ◌||◌, eqb, ltb}
+use Rattle.std.specs.Prelude.{ℕ, zero, suc, ◌+◌, ◌-◌, ◌≤◌, ◌<◌, ◌≡◌, Bool, ◌||◌, ◌&&◌, ltb}
+use Rattle.std.specs.List.{list_all, range_with_len}
 use Rattle.std.proofs.Math.Path.{refl, sym, ap}
-use Rattle.std.proofs.Common.{◌∙◌, arith, lt-ltb, le-ltb, ne_eqb}
+use Rattle.std.proofs.Common.{arith, lt-ltb, le-ltb}
 use Rattle.std.proofs.Math.Bool.{true, false, cond}
-use Rattle.std.proofs.Math.Decide.{dec_lt}
-use Rattle.logic.specs.Tests.{all_below, all_at, all_by, all_fails, or_yes, same_truth, same-truth}
+use Rattle.logic.specs.Tests.{all_below, all_at, all_by, all_more, all_fails, or_yes}
 use Rattle.parts.specs.Isr.{member}
 use Rattle.parts.specs.IsrLaws.{member_none}
 use Rattle.parts.specs.Leader.{names}
@@ -13,14 +13,12 @@ use Rattle.replica.specs.Log.{hold_same_record}
 use Rattle.cluster.specs.declared.State.{State}
 use Rattle.cluster.specs.State.{replica_count_of, replica_at}
 use Rattle.cluster.specs.Actions.{replica_presumes_leadership}
-use Rattle.cluster.specs.Act.{kind_of}
-use Rattle.cluster.specs.ActLaws.{kind_past}
 use Rattle.questions.specs.declared.Property.{Property}
 use Rattle.questions.specs.declared.doubt.Doubt.{Doubt}
 use Rattle.questions.specs.IsrLaws.{isr_by_property, below_cond, asked_of}
-use Rattle.questions.specs.Doubt.{agree_from, offsets_in_doubt, pair_agrees, leader_agrees, holds_in_doubt, exposing}
+use Rattle.questions.specs.Doubt.{agree_from, offsets_in_doubt, pair_agrees, leader_agrees, holds_in_doubt}
 
--- ---- the loop over the offsets, which starts at the first in doubt
+-- ---- the test of the offsets, which starts at the first in doubt
 module _ (from : ℕ) (p q : Replica) where
   pub from_none : all_below from (agree_from from p q) ≡ true
   unfolding agree_from
@@ -38,6 +36,19 @@ module _ (from : ℕ) (p q : Replica) where
 pub all_past : (n i : ℕ) (test : ℕ → Bool) → n ≤ i → all_below i test ≡ true → true ≡ all_below n test
 all_past n i test l h = sym (all_by n test (λ j k. all_at i test h j (omega arith)))
 
+-- the test of all from i on, where those before i agree
+pub agree_on : (from : ℕ) (p q : Replica) (to n i : ℕ) → from ≤ i → to - i ≡ n → all_below i (agree_from from p q) ≡ true
+    → list_all (hold_same_record p q) (range_with_len i n) ≡ all_below to (agree_from from p q)
+agree_on from p q to zero i l e h = all_past to i (agree_from from p q) (omega arith) h
+agree_on from p q to (suc n) i l e h = go (agree_on from p q to n (i + 1) (omega arith) (omega arith)) (hold_same_record p q i) refl
+  where
+    go : (all_below (i + 1) (agree_from from p q) ≡ true
+        → list_all (hold_same_record p q) (range_with_len (i + 1) n) ≡ all_below to (agree_from from p q))
+        → (b : Bool) → hold_same_record p q i ≡ b
+        → b && list_all (hold_same_record p q) (range_with_len (i + 1) n) ≡ all_below to (agree_from from p q)
+    go rest true k = rest (all_more i (agree_from from p q) h (from_same from p q i k))
+    go rest false k = all_fails to i (agree_from from p q) (omega arith) (from_differ from p q i l k)
+
 -- ---- the loops over leaders and members
 module _ (d : Doubt) (property : Property) (s : State) (r : ℕ) where
   -- how many members are looked at for r, and how many offsets of r and m
@@ -47,16 +58,8 @@ module _ (d : Doubt) (property : Property) (s : State) (r : ℕ) where
   abbrev pub offsets_of : ℕ → ℕ
   offsets_of m = cond (member d.agreeing m) 0 (cond (member (isr_by_property property (replica_at s r).isr s.quorum.isr) m) (replica_at s r).hw 0)
 
-  pub offsets_below : (m : ℕ) → offsets_of m ≤ (replica_at s r).hw
-  offsets_below m = go (member d.agreeing m) (member (isr_by_property property (replica_at s r).isr s.quorum.isr) m)
-    where
-      go : (b c : Bool) → cond b 0 (cond c (replica_at s r).hw 0) ≤ (replica_at s r).hw
-      go true c = omega arith
-      go false true = omega arith
-      go false false = omega arith
-
   -- a member is looked at: r is in doubt and presumes, and m is a replica
-  pub member_below : (m : ℕ) → m < members_of
+  member_below : (m : ℕ) → m < members_of
       → (member d.leaders r ≡ true) × (names (replica_at s r).leader r ≡ true) × (m < replica_count_of s.limits)
   member_below m l =
       let led = below_cond (member d.leaders r) _ m l in
@@ -92,12 +95,3 @@ no_leader_in_doubt d property s e =
     sym
     (all_by (replica_count_of s.limits) (leader_agrees d property s)
     (λ r l. all_by (replica_count_of s.limits) (pair_agrees d property s r) (λ m k. rw (e, member_none r) refl)))
-
--- the kinds that can expose more, by their numbers
-pub exposing_number : (n : ℕ) → exposing (kind_of n) ≡ eqb n 2 || eqb n 7
-unfolding exposing kind_of all_below same_truth
-exposing_number n =
-    elim (dec_lt n 9) [
-      | yes l ↦ same-truth _ _ (all_at 9 (λ (k : ℕ). same_truth (exposing (kind_of k)) (eqb k 2 || eqb k 7)) refl n l)
-      | no l ↦ ap exposing (kind_past n (omega arith)) ∙ sym (rw (ne_eqb n 2 (omega arith), ne_eqb n 7 (omega arith)) refl)
-    ]

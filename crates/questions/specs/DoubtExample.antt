@@ -1,15 +1,13 @@
 -- Kind 5 can break strong ISR, on a state that meets the rules: where the ISR of the true leader is not the quorum's. So the law, which
 -- is for every state that meets them, has to ask what kind 5 can have added to the quorum's ISR. Assumes nothing.
-use Rattle.std.specs.Prelude.{ℕ, ◌≡◌, refl, true, false, [], ◌∷◌, pos, replicate, set}
+use Rattle.std.specs.Prelude.{ℕ, ◌≡◌, refl, true, false, [], ◌∷◌, pos, replicate, set, Some}
 use Rattle.std.proofs.Math.Option.{or_else}
 use Rattle.logic.specs.Tests.{all_below, every}
 use Rattle.logic.specs.Refuse.{refuse, refuse_unless, by_refusal}
 use Rattle.logic.specs.Search.{first_below, passing, first_third, first_second, first_triple}
 use Rattle.parts.specs.Refusal.{accepted}
-use Rattle.parts.specs.declared.Leader.TheVariants.{Some}
 use Rattle.parts.specs.Isr.{member, full_isr, isr_below, isr_of, without}
 use Rattle.parts.specs.Epoch.{same_epoch, last_epoch, epoch_used}
-use Rattle.parts.specs.Leader.{same_leader, leader_below, leader_none_or_in_isr}
 use Rattle.replica.specs.declared.Replica.{Replica}
 use Rattle.replica.specs.Replica.{replica_of, zero_record, zero_replica}
 use Rattle.replica.specs.Change.{with_isr}
@@ -49,6 +47,6 @@ unfolding differing_isrs ask_isr check_isr isr_answer_of smallest_failure differ
     operands_fit operand_bounds operand_bound uses kind_of leader_shrink_isr leader_shrink_isr_refusal quorum_update_leader_and_isr is_follower_caught_up
     is_true_leader replica_is_following replica_presumes_leadership rules rule7 agrees_with_all rule6 rule5 replica_meets_s5 replica_matches_request rule4
     rule3 quorum_matches_request rule2 replica_in_range leader_and_isr_in_range rule1 in_range between with_replica with_quorum_isr with_isr hold_same_record
-    same_record logs_agree record_agrees records_agree log_in_use record_in_use leader_none_or_in_isr leader_below same_leader epoch_used last_epoch same_epoch without
+    same_record logs_agree record_agrees records_agree log_in_use record_in_use epoch_used last_epoch same_epoch without
     isr_of isr_below full_isr member first_triple first_second first_third passing first_below or_else refuse by_refusal state_refusal refuse_unless every all_below
 kind_five_breaks_strong = record { meets = refl; accepts = refl; held = refl; fails = refl }

@@ -13,7 +13,7 @@ use Rattle.cluster.specs.Rules.{state_refusal}
 use Rattle.cluster.specs.Actions.{replica_presumes_leadership}
 use Rattle.questions.specs.declared.Property.{Property}
 use Rattle.questions.specs.declared.Property.TheVariants.{WeakIsr, StrongIsr}
-use Rattle.questions.specs.declared.IsrAnswer.{IsrAnswer}
+use Rattle.questions.specs.Answer.{IsrAnswer}
 
 -- ---- what is asked of r, m and an offset
 -- the ISR that m is a member of: r's own, or the quorum's

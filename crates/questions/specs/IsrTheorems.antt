@@ -17,7 +17,7 @@
 --   fresh_nobody_presumes         in a fresh state no replica presumes
 --   fresh_holds                   so both properties hold of it
 use Prim.Native.Nat.{ℕ, ◌<◌, ◌^◌}
-use Rattle.std.specs.Prelude.{◌≡◌, Bool, cond, ◌∷◌, ◌↔◌}
+use Rattle.std.specs.Prelude.{◌≡◌, Bool, cond, ◌∷◌, ◌↔◌, Some}
 use Rattle.std.proofs.Math.Path.{refl, ap, subst}
 use Rattle.std.proofs.Common.{sym, ◌∙◌, arith}
 use Rattle.std.proofs.Math.Bool.{true, false, not}
@@ -27,11 +27,9 @@ use Rattle.logic.specs.Tests.{and_left, and_right, and_both, true_false}
 use Rattle.logic.specs.Refuse.{by_accepted, by_refused, by_number, listed}
 use Rattle.logic.specs.Search.{Triple, triple, Before, first_triple}
 use Rattle.logic.proofs.SearchLaws.{first_triple_none, first_triple_some, first_triple_cong}
-use Rattle.parts.specs.declared.Leader.TheVariants.{Some}
 use Rattle.parts.specs.Refusal.{accepted}
 use Rattle.parts.specs.Isr.{member}
 use Rattle.parts.specs.IsrLaws.{member_within}
-use Rattle.parts.specs.Leader.{names}
 use Rattle.parts.specs.LeaderLaws.{names_iff}
 use Rattle.replica.specs.Replica.{record_at, SameReplica}
 use Rattle.replica.specs.Log.{hold_same_record}
@@ -50,7 +48,7 @@ use Rattle.cluster.specs.Fresh.{fresh_state, fresh}
 use Rattle.cluster.specs.FreshLaws.{fresh-replica, fresh_accepted, fresh_answer_rules}
 use Rattle.questions.specs.declared.Property.{Property}
 use Rattle.questions.specs.declared.Property.TheVariants.{WeakIsr, StrongIsr}
-use Rattle.questions.specs.declared.IsrAnswer.{IsrAnswer}
+use Rattle.questions.specs.Answer.{IsrAnswer}
 use Rattle.questions.specs.Isr.{isr_asked, is_asked, offsets_asked, differ_at, smallest_failure, isr_answer, isr_answer_of, check_isr, isr_refused, ask_isr, weak_isr, strong_isr}
 
 -- ---- the property
@@ -270,7 +268,7 @@ isr_same property s t m = go (rules s) refl
 -- no replica presumes leadership
 pub fresh_nobody_presumes : (c : Limits) → (fresh c).refusal ≡ accepted → (r : ℕ) → r < replica_count_of c
     → replica_presumes_leadership (fresh c).state r ≡ false
-unfolding replica_presumes_leadership names
+unfolding replica_presumes_leadership
 fresh_nobody_presumes c h r l =
     let p = fresh_accepted c h in
     rw (p.1, fresh-replica c r (omega (arith, (ranges_of c p.0).replicas)) l) refl

@@ -1,3 +1,4 @@
+pub mod Answer
 pub mod Isr
 pub mod Offer
 pub mod OfferLaws

@@ -10,7 +10,7 @@ use Rattle.cluster.specs.declared.Bounds.{Bounds}
 use Rattle.cluster.specs.State.{tidy}
 use Rattle.cluster.specs.Rules.{state_refusal}
 use Rattle.cluster.specs.Act.{last_kind, kind_of, action_of, operand_bounds, action_refusal}
-use Rattle.questions.specs.declared.OfferAnswer.{OfferAnswer}
+use Rattle.questions.specs.Answer.{OfferAnswer}
 
 -- ---- the smallest that is accepted
 -- the bound of e, whatever a and b are

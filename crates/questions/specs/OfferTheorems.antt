@@ -39,7 +39,7 @@ use Rattle.cluster.specs.Act.{last_kind, kind_of, action_of, uses, operand_bound
 use Rattle.cluster.specs.ActLaws.{refusal_of_met, accepts}
 use Rattle.cluster.specs.Accepted.{operand_iff, action_accepted}
 use Rattle.actions.specs.Answers.{act_number}
-use Rattle.questions.specs.declared.OfferAnswer.{OfferAnswer}
+use Rattle.questions.specs.Answer.{OfferAnswer}
 use Rattle.questions.specs.Offer.{epoch_bound, is_accepted, smallest_accepted, offer_answer, offer_refused, offer_of, find_offer, offer_refusal, offer}
 
 -- the action of a kind with these operands is accepted

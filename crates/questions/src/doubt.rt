@@ -5,12 +5,10 @@ ghost use Rattle.logic.specs.Tests.{all_below};
 ghost use Rattle.parts.specs.Isr.{member};
 ghost use Rattle.parts.specs.Leader.{names, leader_below};
 ghost use Rattle.cluster.specs.State.{next_leader_epoch_of, request_at, replica_at};
-ghost use Rattle.cluster.specs.Rules.{rules};
 ghost use Rattle.questions.specs.Doubt.{doubt_of, no_doubt, led_doubt, cut_doubt, shrink_doubt, expand_doubt, raised_doubt, doubt_after_action, agree_from, holds_in_doubt, ReadsWithin, holds_after_action, exposes_more};
 
 use crate::{Property, isr};
-use cluster::{Action, Kind, State};
-use parts::Leader;
+use cluster::{Action, Kind, State, ValidState};
 use replica::Replica;
 
 // The five replicas, as a set.
@@ -29,9 +27,9 @@ impl Doubt {
         ensures { result ≡ doubt_of leaders agreeing from }
     {
         Doubt {
-            leaders: leaders,
-            agreeing: agreeing,
-            from: from,
+            leaders,
+            agreeing,
+            from,
         }
     }
 
@@ -43,18 +41,20 @@ impl Doubt {
     }
 
     // Kind 2: the leader that a request names, against every member. The caller shows that it is one of five.
-    fn after_lead(leader: Leader) -> Doubt
+    #[tactic(auto, unfolding(crate::specs::Doubt::led_doubt))]
+    fn after_lead(leader: Option<u8>) -> Doubt
         requires { leader_below 5 leader ≡ true }
         ensures { result ≡ led_doubt leader }
     {
         match leader {
-            Leader::None => Doubt::none(),
-            Leader::Some(b) => Doubt::of(parts::including_member(0, b), 0, 0),
+            None => Doubt::none(),
+            Some(b) => Doubt::of(parts::including_member(0, b), 0, 0),
         }
     }
 
     // Kind 5, weak ISR: nothing. Strong ISR: every leader against the members that the quorum's ISR gained, and nothing where it only
     // lost b. The caller shows that the ISR and b are within five replicas.
+    #[tactic(auto, unfolding(crate::specs::Doubt::shrink_doubt))]
     fn after_shrink(property: Property, before: u8, now: u8, b: u8) -> Doubt
         requires bound { now < 32 }
         requires b_bound { b < 5 }
@@ -64,15 +64,17 @@ impl Doubt {
             Property::WeakIsr => Doubt::none(),
             Property::StrongIsr => {
                 if parts::including_member(now, b) == before {
-                    return Doubt::none();
+                    Doubt::none()
+                } else {
+                    Doubt::of(ALL_FIVE, before, 0)
                 }
-                Doubt::of(ALL_FIVE, before, 0)
             }
         }
     }
 
     // Kind 6, weak ISR: a against b. Strong ISR: every leader against the members that the quorum's ISR gained. The caller shows that a
     // is below 5.
+    #[tactic(auto, unfolding(crate::specs::Doubt::expand_doubt))]
     fn after_expand(property: Property, before: u8, a: u8, b: u8) -> Doubt
         requires { a < 5 }
         ensures { result ≡ expand_doubt property before a b }
@@ -92,22 +94,21 @@ impl Doubt {
         ensures { result ≡ cond (member self.leaders r) (cond (names p.leader r) number 0) 0 }
     {
         if parts::is_member(self.leaders, r) {
-            return isr::where_presuming(p, r, number);
+            isr::where_presuming(p, r, number)
+        } else {
+            0
         }
-        0
     }
 
     // The given number where m is not known to agree and is in the ISR; else 0.
     fn where_unknown(self, isr: u8, m: u8, number: u8) -> u8
         ensures { result ≡ cond (member self.agreeing m) 0 (cond (member isr m) number 0) }
     {
-        if parts::is_member(self.agreeing, m) {
-            return 0;
+        if !parts::is_member(self.agreeing, m) && parts::is_member(isr, m) {
+            number
+        } else {
+            0
         }
-        if parts::is_member(isr, m) {
-            return number;
-        }
-        0
     }
 }
 
@@ -116,56 +117,35 @@ fn logs_agree(p: Replica, q: Replica, from: u8, to: u8) -> bool
     requires { to ≤ 16 }
     ensures { result ≡ all_below to (agree_from from p q) }
 {
-    let mut x = from;
-    while x < to {
-        let own = p.log[x as usize];
-        let other = q.log[x as usize];
-        if own.same_below_ends(other, x, p.end, q.end) {
-            x = x + 1;
-        } else {
-            return false;
-        }
-    }
-    true
+    (from..to).all(|x| p.log[x as usize].same_below_ends(q.log[x as usize], x, p.end, q.end))
 }
 
-// The narrow test: whether a property holds of all that is in doubt. The caller shows that the state meets the rules.
-fn holds_in_doubt(doubt: Doubt, property: Property, s: State) -> bool
-    requires { rules s ≡ true }
-    ensures { result ≡ holds_in_doubt doubt property s }
+// The narrow test: whether a property holds of all that is in doubt.
+#[tactic(auto, using(logic::specs::Tests::all_none, logic::specs::Tests::all_more, crate::specs::DoubtCode::pair_is, crate::specs::DoubtCode::members_past, crate::specs::DoubtCode::pair_fails, cluster::specs::ActLaws::hw_small), unfolding(crate::specs::Doubt::holds_in_doubt))]
+fn holds_in_doubt(doubt: Doubt, property: Property, s: ValidState) -> bool
+    ensures { result ≡ holds_in_doubt doubt property s.state }
 {
-    let c = s.limits;
-    let n = c.replica_count;
-    let quorum = s.quorum;
-    let mut r: u8 = 0;
-    while r < n {
-        let p = s.replicas[r as usize];
-        let isr = isr::isr_asked(property, p.isr, quorum.isr);
-        let members = doubt.where_in_doubt(p, r, n);
-        let mut m: u8 = 0;
-        while m < members {
-            let q = s.replicas[m as usize];
-            if logs_agree(p, q, doubt.from, doubt.where_unknown(isr, m, p.hw)) {
-                m = m + 1;
-            } else {
+    let n = s.state.limits.replica_count;
+    for r in 0..n {
+        let p = s.state.replicas[r as usize];
+        let isr = isr::isr_asked(property, p.isr, s.state.quorum.isr);
+        for m in 0..doubt.where_in_doubt(p, r, n) {
+            let q = s.state.replicas[m as usize];
+            if !logs_agree(p, q, doubt.from, doubt.where_unknown(isr, m, p.hw)) {
                 return false;
             }
         }
-        r = r + 1;
     }
     true
 }
 
-// Kind 2: the leader that request e names, against every member. The caller shows that the state meets the rules and that request e
-// was sent.
-fn doubt_after_lead(s: State, e: u8) -> Doubt
-    requires s_value { rules s ≡ true }
-    requires e_bound { e < next_leader_epoch_of s }
-    ensures { result ≡ led_doubt (request_at s e).leader }
+// Kind 2: the leader that request e names, against every member. The caller shows that request e was sent.
+#[tactic(auto, using(cluster::specs::ActLaws::request_leader_below))]
+fn doubt_after_lead(s: ValidState, e: u8) -> Doubt
+    requires { e < next_leader_epoch_of s.state }
+    ensures { result ≡ led_doubt (request_at s.state e).leader }
 {
-    let q = s.requests[e as usize];
-    let l = q.leader;
-    Doubt::after_lead(l)
+    Doubt::after_lead(s.state.requests[e as usize].leader)
 }
 
 // Kind 3: every leader against a, from the end of a's log after the cut on. The caller shows that a is below 5.
@@ -173,8 +153,8 @@ fn doubt_after_cut(s: State, a: u8) -> Doubt
     requires { a < 5 }
     ensures { result ≡ cut_doubt s a }
 {
-    let p = s.replicas[a as usize];
-    Doubt::of(ALL_FIVE, parts::without_member(ALL_FIVE, a), p.end)
+    let end = s.replicas[a as usize].end;
+    Doubt::of(ALL_FIVE, parts::without_member(ALL_FIVE, a), end)
 }
 
 // Kind 7: a against every member, from the high watermark that it had on, the last offset below the one that it has. The caller shows
@@ -184,53 +164,51 @@ fn doubt_after_raise(s: State, a: u8) -> Doubt
     requires bound { 1 ≤ (replica_at s a).hw }
     ensures { result ≡ raised_doubt s a }
 {
-    let p = s.replicas[a as usize];
-    Doubt::of(parts::including_member(0, a), 0, p.hw - 1)
+    let hw = s.replicas[a as usize].hw;
+    Doubt::of(parts::including_member(0, a), 0, hw - 1)
 }
 
-// What an action leaves in doubt, by the quorum's ISR before it and the state after it. The caller shows that the state meets the
-// rules, and that what is read of it is there.
-fn doubt_after(property: Property, before: u8, s: State, action: Action) -> Doubt
-    requires s_value { rules s ≡ true }
-    requires reads_within { ReadsWithin s action }
-    ensures { result ≡ doubt_after_action property before s action }
+// What an action leaves in doubt, by the quorum's ISR before it and the state after it. The caller shows that what is read of that
+// state is there.
+#[tactic(auto, unfolding(crate::specs::Doubt::doubt_after, cluster::specs::Act::uses))]
+fn doubt_after(property: Property, before: u8, s: ValidState, action: Action) -> Doubt
+    requires { ReadsWithin s.state action }
+    ensures { result ≡ doubt_after_action property before s.state action }
 {
-    let quorum = s.quorum;
-    let kind = Kind::of(action.kind);
-    match kind {
-        Kind::ControllerShrinkIsr => Doubt::none(),
-        Kind::ControllerElectLeader => Doubt::none(),
+    match Kind::from(action.kind) {
         Kind::BecomeLeader => doubt_after_lead(s, action.e),
-        Kind::BecomeFollower => doubt_after_cut(s, action.a),
-        Kind::LeaderWrite => Doubt::none(),
-        Kind::LeaderShrinkIsr => Doubt::after_shrink(property, before, quorum.isr, action.b),
+        Kind::BecomeFollower => doubt_after_cut(s.state, action.a),
+        Kind::LeaderShrinkIsr => {
+            Doubt::after_shrink(property, before, s.state.quorum.isr, action.b)
+        }
         Kind::LeaderExpandIsr => Doubt::after_expand(property, before, action.a, action.b),
-        Kind::LeaderIncHighWatermark => doubt_after_raise(s, action.a),
-        Kind::FollowerReplicate => Doubt::none(),
-        Kind::Unknown => Doubt::none(),
+        Kind::LeaderIncHighWatermark => doubt_after_raise(s.state, action.a),
+        Kind::ControllerShrinkIsr
+        | Kind::ControllerElectLeader
+        | Kind::LeaderWrite
+        | Kind::FollowerReplicate
+        | Kind::Unknown => Doubt::none(),
     }
 }
 
 // Whether a property that held before an action holds of the state that the action led to: the narrow test of it, which decides that
-// (`holds_after`). The caller shows that the state meets the rules, and that what the test reads of it is there.
-pub fn holds_after(property: Property, before: u8, s: State, action: Action) -> bool
-    requires s_value { rules s ≡ true }
-    requires reads_within { ReadsWithin s action }
-    ensures { result ≡ holds_after_action property before s action }
+// (`holds_after`). The caller shows that what the test reads of the state is there.
+#[tactic(auto, using(crate::specs::DoubtCode::no_leader_in_doubt))]
+pub fn holds_after(property: Property, before: u8, s: ValidState, action: Action) -> bool
+    requires { ReadsWithin s.state action }
+    ensures { result ≡ holds_after_action property before s.state action }
 {
     let doubt = doubt_after(property, before, s, action);
-    if doubt.leaders == 0 {
-        return true;
-    }
-    holds_in_doubt(doubt, property, s)
+    doubt.leaders == 0 || holds_in_doubt(doubt, property, s)
 }
 
 // Whether an action of this kind can expose more than was exposed before.
+#[tactic(auto, unfolding(crate::specs::Doubt::exposing))]
 pub fn exposes_more(kind: u8) -> bool
     ensures { result ≡ exposes_more kind }
 {
-    if kind == 2 {
-        return true;
-    }
-    kind == 7
+    matches!(
+        Kind::from(kind),
+        Kind::BecomeLeader | Kind::LeaderIncHighWatermark
+    )
 }

@@ -9,6 +9,7 @@ use crate::Property;
 use replica::Replica;
 
 // The ISR whose members are asked about: the leader's own, or the quorum's.
+#[tactic(auto, unfolding(crate::specs::IsrLaws::isr_by_property))]
 pub(crate) fn isr_asked(property: Property, own: u8, quorum: u8) -> u8
     ensures { result ≡ isr_by_property property own quorum }
 {
@@ -22,11 +23,7 @@ pub(crate) fn isr_asked(property: Property, own: u8, quorum: u8) -> u8
 pub(crate) fn where_presuming(p: Replica, r: u8, number: u8) -> u8
     ensures { result ≡ cond (names p.leader r) number 0 }
 {
-    let leader = p.leader;
-    if leader.names(r) {
-        return number;
-    }
-    0
+    if p.leader == Some(r) { number } else { 0 }
 }
 
 // How many offsets of leader r and replica m are compared: those below the leader's high watermark, where m is in the ISR asked
@@ -34,11 +31,9 @@ pub(crate) fn where_presuming(p: Replica, r: u8, number: u8) -> u8
 pub(crate) fn offsets_asked(isr: u8, r: u8, m: u8, hw: u8) -> u8
     ensures { result ≡ cond (eqb m r) 0 (cond (member isr m) hw 0) }
 {
-    if m == r {
-        return 0;
+    if m != r && parts::is_member(isr, m) {
+        hw
+    } else {
+        0
     }
-    if parts::is_member(isr, m) {
-        return hw;
-    }
-    0
 }

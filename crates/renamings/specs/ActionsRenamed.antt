@@ -6,16 +6,14 @@
 --   refusal_renamed                            the table refuses the renamed action on the renamed state with the same number
 --   update_renamed .. isr_renamed              the changes that the effects are made of
 --   effect_renamed                             the effect of the renamed action on the renamed state is the effect, renamed
-use Rattle.std.specs.Prelude.{ℕ, ◌+◌, ◌≤◌, min, ◌≡◌, Bool, ◌||◌, ℤ, pos, length}
+use Rattle.std.specs.Prelude.{ℕ, ◌+◌, ◌≤◌, min, ◌≡◌, Bool, ◌||◌, ℤ, pos, length, None, Some}
 use Rattle.std.proofs.Math.Path.{refl, sym, ap₂}
 use Rattle.std.proofs.Common.{ap, ◌∙◌, le_refl}
 use Rattle.std.proofs.Math.Bool.{true, false, not}
 use Rattle.logic.specs.Tests.{every_cong}
 use Rattle.logic.specs.Maps.{map_set}
-use Rattle.parts.specs.declared.Leader.{Leader}
-use Rattle.parts.specs.declared.Leader.TheVariants.{None, Some}
 use Rattle.parts.specs.Isr.{member, without, including, is_alone}
-use Rattle.parts.specs.Leader.{names}
+use Rattle.parts.specs.Leader.{Leader, names}
 use Rattle.replica.specs.declared.Replica.{Replica}
 use Rattle.replica.specs.Replica.{record_at, tidy_replica}
 use Rattle.replica.specs.Change.{with_hw, with_isr, with_end, with_request, append, truncate_to, truncate_under, become_follower_and_truncate_to}

@@ -1,6 +1,8 @@
--- What the code of renamings works with: names, the constant of the table, the renamed ISR by new names, the renamed ISRs as a
+-- What the code of renamings works with: chains, names, the constant of the table, the renamed ISR by new names, the renamed ISRs as a
 -- table, the old names as five numbers, and the renaming that leaves a state. Assumes nothing.
 --
+--   all_ranged                                `all` over the numbers below n is the test of each of them
+--   served                                    a call that leaves the callee as it was may be made at each turn
 --   new_name_place                            a place below five holds the new name of its own number
 --   in_place_low, in_place_high               the test of one place, below n and from n on
 --   numbers_at                                number 5 * k + j of the table is place j of row k
@@ -11,7 +13,7 @@
 --   isr_named                                 what the table of all 32 renamed ISRs holds for an ISR
 --   request_looked_up p isrs requests e       request e with its ISR looked up so
 --   requests_looked_up                        the requests looked up are the renamed requests
---   inverse_start, inverse_turn               the loop that finds the old names: its start, and a turn
+--   inverse_start, inverse_turn, inverse_end  the loop that finds the old names: its start, a turn, and its end
 --   both_inward                               new names and old names are below five
 --   back_old, back_below                      what code reads of the inverse: the old names, below five
 --   leaves_state                              a renaming of no replicas leaves the state
@@ -21,9 +23,17 @@
 --   rename_numbers, rename_listed             the numbers that renaming may give beside 0; it gives no other
 use Rattle.std.specs.Prelude.{ℕ, zero, suc, ◌+◌, ◌*◌, ◌^◌, ◌/◌, ◌%◌, ◌≤◌, ◌<◌, ◌≡◌, Bool, true, false, ◌&&◌, List, [], ◌∷◌, ◌++◌, map, eqb, ltb, length, get_or, set}
 use Rattle.std.proofs.Math.Path.{refl, ap, fun_ext}
-use Rattle.std.proofs.Common.{sym, ap₂, ◌∙◌, add-one, arith, mod-lt, lt-ltb, le-ltb, eq-eqb, ne_eqb, eqb-true, ltb-true, length-set}
+use Rattle.std.proofs.Common.{sym, ap₂, ◌∙◌, zero-add, add-one, arith, mod-lt, lt-ltb, le-ltb, eq-eqb, ne_eqb, eqb-true, ltb-true, length-set}
 use Rattle.std.proofs.Math.Bool.{not}
-use Rattle.logic.specs.Tests.{all_below, all_at, every, and_left, and_right}
+use Rattle.std.specs.List.{list_all, range_with_len}
+use Rattle.std.specs.Prelude.{Option, Some}
+use Rattle.std.specs.Iterator.{CallableAtEachTurn}
+use Rattle.std.proofs.lemmas.Fn.{serves_by}
+use Rattle.std.proofs.Math.Path.{subst}
+use Rattle.std.proofs.lemmas.List.{take_all}
+use Rattle.std.proofs.lemmas.List.FromFn.{length-range_with_len, get_or-range_with_len}
+use Rattle.logic.specs.Chains.{all_taken}
+use Rattle.logic.specs.Tests.{all_below, all_at, all_cong, every, and_left, and_right}
 use Rattle.logic.specs.Concat.{concat_below}
 use Rattle.logic.specs.Maps.{map_table}
 use Rattle.logic.specs.Table.{table, table_from, length_table, get_d_table, ext_table, table_cong}
@@ -35,7 +45,7 @@ use Rattle.cluster.specs.declared.State.{State}
 use Rattle.logic.specs.Refuse.{refuse_yes, refuse_none, first_yes, first_no, first_none, by_refusal, by_accepted, by_refused, by_number, by_other, listed, listed_refuse, listed_first, listed_within}
 use Rattle.parts.specs.Refusal.{accepted, not_renaming}
 use Rattle.cluster.specs.State.{replica_count_of, next_leader_epoch_of, next_record_id_of, zero_request, request_in, state_of}
-use Rattle.cluster.specs.declared.Outcome.{Outcome}
+use Rattle.cluster.specs.Answer.{Outcome}
 use Rattle.cluster.specs.Rules.{rules, state_refusal, state_numbers}
 use Rattle.cluster.specs.RuleLaws.{met_refusal, rules_bounded, state_listed}
 use Rattle.cluster.specs.Outcome.{answer, as_given}
@@ -47,6 +57,22 @@ use Rattle.renamings.specs.Rows.{five, rows_count, row_renaming, row_number, dis
 use Rattle.renamings.specs.Places.{renaming_five}
 use Rattle.renamings.specs.RulesRenamed.{Fits}
 use Rattle.renamings.specs.Group.{rename_same}
+
+-- ---- chains
+-- `all` over the numbers below n
+pub all_ranged : (n : ℕ) (test : ℕ → Bool) → list_all test (range_with_len 0 n) ≡ all_below n test
+all_ranged n test =
+    let l = length-range_with_len 0 n in
+    ap (list_all test) (sym (take_all n (range_with_len 0 n) (omega (arith, l))))
+    ∙ all_taken test 0 n (range_with_len 0 n) (omega (arith, l))
+    ∙ all_cong n (λ i. test (get_or (range_with_len 0 n) i 0)) test (λ i b. ap test (get_or-range_with_len 0 n i 0 b ∙ zero-add i))
+
+-- what a call is asked for at each turn, where every call leaves the callee as it was
+pub served : {S A P : Type 0} (R : P → A → P → Type 0) (steps : S → Option A → S → Type 0) (Q : P → A → Type 0) (s : S) (p : P)
+    → ((x : A) (q : P) → R p x q → q ≡ p) → ((t : S) (x : A) (u : S) → steps t (Some x) u → Q p x) → CallableAtEachTurn steps R Q s p
+served R steps Q s p stays asks =
+    serves_by R (λ xs q. q ≡ p) (λ xs q x v j r. stays x v (subst (λ f. R f x v) j r)) steps Q s p refl
+    (λ xs t q x u y st j. subst (λ f. Q f x) (sym j) (asks t x u st))
 
 -- ---- names
 pub new_name_place : (p : List ℕ) (i : ℕ) → i < 5 → get_or p i 0 ≡ new_name p i
@@ -95,7 +121,7 @@ numbers_at k j h i =
     ∙ ap (λ (r : List (List ℕ)). get_or (get_or r k []) j 0) numbers_rows
 
 -- ---- a renaming of n replicas is one of five places
-renaming_wide : (n : ℕ) (p : List ℕ) → n ≤ 5 → is_renaming n p ≡ true → is_renaming 5 p ≡ true
+pub renaming_wide : (n : ℕ) (p : List ℕ) → n ≤ 5 → is_renaming n p ≡ true → is_renaming 5 p ≡ true
 renaming_wide n p small f =
     let x = row_number n small p (distinct_of n p f) in
     sym (ap (is_renaming 5) x.2 ∙ renaming_five 5 p) ∙ row_renaming x.0 x.1
@@ -210,6 +236,10 @@ inverse_turn p i h =
     (λ j b.
     each_set (λ (x k : ℕ). x ≡ holder (i + 1) p k) (table 5 (holder i p)) (new_name p i) i 0 (holder_own p i) j (omega (arith, l))
     (λ q. get_d_table 5 (holder i p) j 0 b ∙ holder_other p i j q))
+
+pub inverse_end : (p back : List ℕ) (i : ℕ) → i ≡ 5 → back ≡ table 5 (holder i p) → back ≡ inverted p
+unfolding inverted old_name
+inverse_end p back i e h = rw e at h
 
 inverted_at : (p : List ℕ) (j : ℕ) → j < 5 → name_in (inverted p) j ≡ old_name p j
 unfolding inverted

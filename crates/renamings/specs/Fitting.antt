@@ -32,7 +32,7 @@ use Rattle.logic.specs.Least.{filtered, filtered_fit, filtered_all}
 use Rattle.renamings.specs.Names.{new_name, holder, old_name, in_place, is_new, is_renaming, without_place, orders, rows, row, table_numbers}
 use Rattle.renamings.specs.Rows.{five, same_numbers, same-numbers, rows_count, row_number, distinct_of}
 use Rattle.renamings.specs.Places.{renaming_five}
-use Rattle.renamings.specs.CodeLaws.{numbers_at}
+use Rattle.renamings.specs.CodeLaws.{numbers_at, renaming_wide}
 
 -- the rows that are renamings of n replicas, in the table's order
 unfoldable pub fitting_rows : ℕ → List (List ℕ)
@@ -112,6 +112,10 @@ pub fitting_fits : (n k : ℕ) → n ≤ 5 → k < factorial n → is_renaming n
 unfolding fitting_rows
 fitting_fits n k h l =
     ap (is_renaming n) (sym (fitting_at n k h l)) ∙ filtered_fit (is_renaming n) [] rows k (omega (arith, fitting_count n h))
+
+-- and so one of five places
+pub fitting_wide : (n k : ℕ) → n ≤ 5 → k < factorial n → is_renaming 5 (fitting_row n k) ≡ true
+fitting_wide n k h l = renaming_wide n (fitting_row n k) h (fitting_fits n k h l)
 
 -- and each renaming of n replicas is one of them
 pub fitting_all : (n : ℕ) → n ≤ 5 → (p : List ℕ) → is_renaming n p ≡ true → (k : ℕ) × (k < factorial n) × (fitting_row n k ≡ five p)

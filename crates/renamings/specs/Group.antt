@@ -1,12 +1,11 @@
 -- Renamings of a state one after another: first one and then another is one renaming, and the inverse leads back. Assumes
 -- nothing.
-use Rattle.std.specs.Prelude.{ℕ, ◌≤◌, ◌<◌, ◌≡◌}
+use Rattle.parts.specs.Leader.{Leader}
+use Rattle.std.specs.Prelude.{ℕ, ◌≤◌, ◌<◌, ◌≡◌, None, Some}
 use Rattle.std.proofs.Math.Path.{refl, sym, ap, fun_ext}
 use Rattle.std.proofs.Common.{◌∙◌}
 use Rattle.logic.specs.Maps.{map_twice, map_same}
 use Rattle.logic.specs.Table.{get_d_table, ext_table, table_cong}
-use Rattle.parts.specs.declared.Leader.{Leader}
-use Rattle.parts.specs.declared.Leader.TheVariants.{None, Some}
 use Rattle.parts.specs.Isr.{member, isr_of}
 use Rattle.parts.specs.IsrLaws.{member_isr_of, isr_of_cong, isr_of_member}
 use Rattle.replica.specs.declared.Replica.{Replica}

@@ -14,7 +14,7 @@
 --   replica_renamed, request_renamed            the replica p(i) and request e of a renamed state
 --   with_replica_renamed                        a replica put at i, renamed, is the renamed replica put at p(i)
 use Prim.Native.Nat.{ℕ, ◌≤◌, ◌<◌}
-use Rattle.std.specs.Prelude.{◌≡◌, Bool, ◌&&◌, ◌||◌, List, map, length, get_or, set}
+use Rattle.std.specs.Prelude.{◌≡◌, Bool, ◌&&◌, ◌||◌, List, map, length, get_or, set, None, Some}
 use Rattle.std.proofs.Math.Path.{refl, sym, ap, ap₂}
 use Rattle.std.proofs.Common.{◌∙◌, arith, le_refl, length-set, get_or-set_same, get_or-set_other, eqb-true, eq-eqb}
 use Rattle.std.proofs.Math.Bool.{not}
@@ -24,11 +24,9 @@ use Rattle.std.proofs.Math.ListN.{get_or-map, get_or-eq_default}
 use Rattle.std.proofs.Math.Seq.{set_out}
 use Rattle.logic.specs.Tests.{bool_ext}
 use Rattle.logic.specs.Table.{table, length_table, get_d_table, ext_table}
-use Rattle.parts.specs.declared.Leader.{Leader}
-use Rattle.parts.specs.declared.Leader.TheVariants.{None, Some}
 use Rattle.parts.specs.Isr.{member, full_isr, isr_of, without, including, no_other, is_alone}
 use Rattle.parts.specs.IsrLaws.{member_past, member_none, member_full, member_isr_of, isr_of_small, isr_of_cong, isr_of_member, full_below, below_32}
-use Rattle.parts.specs.Leader.{names, same_leader, leader_below, leader_none_or_in_isr}
+use Rattle.parts.specs.Leader.{Leader, names, same_leader, leader_below, leader_none_or_in_isr}
 use Rattle.parts.specs.LeaderLaws.{isr_below_iff}
 use Rattle.replica.specs.declared.Replica.{Replica}
 use Rattle.replica.specs.Replica.{no_replica, zero_replica}
@@ -151,29 +149,29 @@ module _ {n : ℕ} (p : Renaming n) (five : n ≤ 5) where
 
   -- ---- leaders
   pub names_renamed : (leader : Leader) (a : ℕ) → names (rename_leader p.to leader) (p.to a) ≡ names leader a
-  unfolding names rename_leader
+  unfolding rename_leader
   names_renamed None a = refl
   names_renamed (Some b) a = eqb_to p b a
 
   pub leader_below_renamed : (leader : Leader) → leader_below n (rename_leader p.to leader) ≡ leader_below n leader
-  unfolding leader_below rename_leader
+  unfolding rename_leader
   leader_below_renamed None = refl
   leader_below_renamed (Some b) = ltb_to p n (le_refl n) b
 
   pub leader_in_isr_renamed : (isr : ℕ) (leader : Leader) → leader_none_or_in_isr (rename_isr p.from isr) (rename_leader p.to leader) ≡ leader_none_or_in_isr isr leader
-  unfolding leader_none_or_in_isr rename_leader
+  unfolding rename_leader
   leader_in_isr_renamed isr None = refl
   leader_in_isr_renamed isr (Some b) = member_renamed isr b
 
   pub same_leader_renamed : (l m : Leader) → same_leader (rename_leader p.to l) (rename_leader p.to m) ≡ same_leader l m
-  unfolding same_leader names rename_leader
+  unfolding rename_leader
   same_leader_renamed None None = refl
   same_leader_renamed None (Some c) = refl
   same_leader_renamed (Some b) None = refl
   same_leader_renamed (Some b) (Some c) = eqb_to p c b
 
   pub no_leader_renamed : (l : Leader) → same_leader (rename_leader p.to l) None ≡ same_leader l None
-  unfolding same_leader names rename_leader
+  unfolding rename_leader
   no_leader_renamed None = refl
   no_leader_renamed (Some b) = refl
 

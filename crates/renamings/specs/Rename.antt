@@ -1,11 +1,10 @@
 -- A state and an action under a renaming. "It gives replica p(i) the whole block of replica i, and in every leader, every ISR
 -- and every used replica operand below R it puts p(i) for i; all else stays." A renaming is given here by two functions: `to`
 -- is p, and `from` its inverse. Assumes nothing.
-use Rattle.std.specs.Prelude.{ℕ, ◌≡◌, Bool, true, not, ◌&&◌, cond, List, map, ltb}
+use Rattle.parts.specs.Leader.{Leader}
+use Rattle.std.specs.Prelude.{ℕ, ◌≡◌, Bool, true, not, ◌&&◌, cond, List, map, ltb, None, Some}
 use Rattle.logic.specs.Table.{table}
 use Rattle.logic.specs.Refuse.{refuse, first_refusal, by_refusal}
-use Rattle.parts.specs.declared.Leader.{Leader}
-use Rattle.parts.specs.declared.Leader.TheVariants.{None, Some}
 use Rattle.parts.specs.Refusal.{accepted, not_renaming}
 use Rattle.parts.specs.Isr.{member, isr_of}
 use Rattle.replica.specs.declared.Replica.{Replica}
@@ -14,7 +13,7 @@ use Rattle.cluster.specs.declared.Quorum.{Quorum}
 use Rattle.cluster.specs.declared.Request.{Request}
 use Rattle.cluster.specs.declared.State.{State}
 use Rattle.cluster.specs.declared.Action.{Action}
-use Rattle.cluster.specs.declared.Outcome.{Outcome}
+use Rattle.cluster.specs.Answer.{Outcome}
 use Rattle.cluster.specs.State.{replica_count_of, next_leader_epoch_of, next_record_id_of, request_in, replica_in, state_of, tidy}
 use Rattle.cluster.specs.Outcome.{answer, as_given}
 use Rattle.cluster.specs.Rules.{rules, state_refusal}

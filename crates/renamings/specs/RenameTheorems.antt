@@ -6,7 +6,7 @@ use Rattle.std.proofs.Common.{◌∙◌, le_refl, arith}
 use Rattle.parts.specs.Isr.{member}
 use Rattle.cluster.specs.declared.State.{State}
 use Rattle.cluster.specs.declared.Action.{Action}
-use Rattle.cluster.specs.declared.ActionAnswer.{ActionAnswer}
+use Rattle.cluster.specs.Answer.{ActionAnswer}
 use Rattle.cluster.specs.declared.MemberTest.{MemberTest}
 use Rattle.cluster.specs.State.{next_leader_epoch_of, next_record_id_of, request_at, replica_count_of, replica_at, Same, tidy}
 use Rattle.cluster.specs.Rules.{rules}
@@ -18,7 +18,7 @@ use Rattle.actions.specs.Answers.{act_same}
 use Rattle.actions.specs.MemberNamed.{test_number, SmallestMember, isr_tidy, passes_tidy, named_kind, named_below}
 use Rattle.actions.proofs.NamedMember.{member-named}
 use Rattle.questions.specs.declared.Property.{Property}
-use Rattle.questions.specs.declared.IsrAnswer.{IsrAnswer}
+use Rattle.questions.specs.Answer.{IsrAnswer}
 use Rattle.questions.specs.Isr.{ask_isr}
 use Rattle.questions.specs.IsrTheorems.{isr_same}
 use Rattle.questions.specs.Exposed.{exposed, exposed_same}

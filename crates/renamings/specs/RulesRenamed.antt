@@ -5,6 +5,7 @@
 --   rule2_renamed .. rule7_renamed    each of S2 to S7 holds of the renamed state exactly where it holds of the state
 --   matches_renamed                   the part of S5 on a replica's epoch, leader and ISR
 --   rules_renamed                     all seven do; S1 reads nothing that a renaming changes
+use Rattle.parts.specs.Leader.{Leader}
 use Prim.Native.Nat.{ℕ, zero, suc, ◌≤◌, ◌<◌, ◌^◌}
 use Rattle.std.specs.Prelude.{◌≡◌, Bool, ◌&&◌, ◌||◌, ℤ, pos, negsuc, length}
 use Rattle.std.proofs.Math.Path.{refl, ap, ap₂}
@@ -13,7 +14,6 @@ use Rattle.std.proofs.Math.Bool.{not}
 use Rattle.std.proofs.Math.Dec.{ltb, leb}
 use borrow.Author.Tests.{lt-ltb, ltb-true}
 use Rattle.logic.specs.Tests.{all_below, all_cong, bool_ext, every_cong}
-use Rattle.parts.specs.declared.Leader.{Leader}
 use Rattle.parts.specs.Isr.{member, isr_below}
 use Rattle.parts.specs.IsrLaws.{within_iff}
 use Rattle.parts.specs.Epoch.{same_epoch, last_epoch}

@@ -7,33 +7,27 @@ pub mod state;
 pub mod table;
 
 ghost use Rattle.std.specs.Prelude.{◌≡◌};
+ghost use Rattle.cluster.specs.Answer.{outcome_of};
 ghost use Rattle.renamings.specs.Rename.{rename};
 
-use cluster::{Outcome, State};
-use parts::refusal::{ACCEPTED, NOT_RENAMING};
+use cluster::{Refused, State};
+use parts::refusal::Refusal;
+pub use places::Renaming;
 
-// The state under the renaming p, with zeros in its unused room. 41 to 47 where the state breaks a rule, then 27 where p is not a
-// renaming of its replicas; refused, the state as given.
-pub fn rename(s: State, p: [u8; 5]) -> Outcome
-    ensures { result ≡ rename s p }
+// The state under the renaming p, with zeros in its unused room. Refused by the first rule that the state breaks, then where p is not
+// a renaming of its replicas; refused, the state as given.
+#[tactic(auto, using(crate::specs::CodeLaws::rename_unfit, crate::specs::CodeLaws::rename_fits, crate::specs::CodeLaws::renames_wide), unfolding(crate::specs::Rename::renamed))]
+pub fn rename(s: State, p: [u8; 5]) -> Result<State, Refused>
+    ensures { outcome_of result ≡ rename s p }
 {
-    let broken = s.state_refusal();
-    if broken != ACCEPTED {
-        return Outcome {
-            refusal: broken,
+    let valid = s
+        .validate()
+        .map_err(|refusal| Refused { refusal, state: s })?;
+    if !places::is_renaming(s.limits.replica_count, p) {
+        return Err(Refused {
+            refusal: Refusal::NotRenaming,
             state: s,
-        };
+        });
     }
-    let c = s.limits;
-    if !places::is_renaming(c.replica_count, p) {
-        return Outcome {
-            refusal: NOT_RENAMING,
-            state: s,
-        };
-    }
-    let tidy = s.tidy();
-    Outcome {
-        refusal: ACCEPTED,
-        state: state::rename_state(tidy, p),
-    }
+    Ok(state::rename_state(valid.tidy().state, Renaming::new(p)))
 }

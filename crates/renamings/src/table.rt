@@ -135,10 +135,6 @@ pub fn part(first: usize) -> [u8; 120]
     let numbers = RENAMINGS;
     let start = 5 * first;
     let mut taken = [0; 120];
-    let mut k: usize = 0;
-    while k < 120 {
-        taken[k] = numbers[start + k];
-        k = k + 1;
-    }
+    taken.copy_from_slice(&numbers[start..start + 120]);
     taken
 }

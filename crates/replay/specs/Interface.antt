@@ -21,21 +21,19 @@ use Rattle.logic.specs.Refuse.{refuse, first_refusal, by_refusal}
 use Rattle.parts.specs.Refusal.{accepted, too_short, left_over, buffer_short, not_renaming}
 use Rattle.parts.specs.Isr.{bit}
 use Rattle.cluster.specs.declared.State.{State}
-use Rattle.cluster.specs.declared.Outcome.{Outcome}
-use Rattle.cluster.specs.declared.ActionAnswer.{ActionAnswer}
+use Rattle.cluster.specs.Answer.{ActionAnswer, Outcome}
 use Rattle.cluster.specs.Outcome.{answer}
 use Rattle.cluster.specs.Rules.{state_refusal}
 use Rattle.cluster.specs.Fresh.{fresh}
 use Rattle.cluster.specs.Act.{action_of, act}
-use Rattle.questions.specs.declared.IsrAnswer.{IsrAnswer}
-use Rattle.questions.specs.declared.OfferAnswer.{OfferAnswer}
+use Rattle.questions.specs.Answer.{IsrAnswer, OfferAnswer}
 use Rattle.questions.specs.Isr.{weak_isr, strong_isr}
 use Rattle.questions.specs.Offer.{offer}
 use Rattle.images.specs.Image.{image}
 use Rattle.images.specs.Read.{read_image}
 use Rattle.renamings.specs.Rename.{rename}
 use Rattle.representatives.specs.Representative.{represent}
-use Rattle.runs.specs.declared.Verdict.{Verdict}
+use Rattle.runs.specs.Answer.{Verdict}
 use Rattle.runs.specs.Run.{judge}
 use Rattle.flat.specs.Flat.{flat_width, flat, state_of_flat}
 

@@ -9,7 +9,7 @@ use Rattle.logic.specs.Refuse.{refuse, refuse_none, by_accepted, by_refused}
 use Rattle.parts.specs.Refusal.{accepted, buffer_short, member_not_following, member_lacks_offset}
 use Rattle.parts.specs.Mark.{byte_at}
 use Rattle.cluster.specs.declared.State.{State}
-use Rattle.cluster.specs.declared.ActionAnswer.{ActionAnswer}
+use Rattle.cluster.specs.Answer.{ActionAnswer}
 use Rattle.cluster.specs.declared.MemberTest.{MemberTest}
 use Rattle.cluster.specs.declared.MemberTest.TheVariants.{IsFollowing, HasOffset}
 use Rattle.cluster.specs.State.{tidy}

@@ -1,114 +1,121 @@
 // What an answer puts at the front of the buffer: nothing where it is refused or the buffer is too short.
-ghost use Rattle.std.specs.Prelude.{◌+◌, ◌≤◌, length};
+ghost use Rattle.std.specs.Prelude.{◌≡◌, ◌+◌, ◌*◌, ◌≤◌, length};
 ghost use Rattle.logic.specs.Stores.{Stored};
-ghost use Rattle.replay.specs.Interface.{Replies, gives, state_reply, isr_reply, offer_reply, number_bytes, three_numbers, verdict_width, verdict_bytes};
+ghost use Rattle.parts.specs.Refusal.{answer_number};
+ghost use Rattle.cluster.specs.Answer.{outcome_of};
+ghost use Rattle.questions.specs.Answer.{isr_answer_of, offer_answer_of};
+ghost use Rattle.runs.specs.Answer.{verdict_of};
+ghost use Rattle.flat.specs.Flat.{flat};
+ghost use Rattle.replay.specs.Interface.{Replies, gives, outcome_reply, isr_reply, offer_reply, verdict_bytes};
+ghost use Rattle.replay.specs.InterfaceLaws.{bytes_of_numbers};
 
-use cluster::State;
+use cluster::{Refused, State};
 use flat::WIDTH;
 use flat::write::put_state;
 use parts::bytes::put_bytes;
-use parts::refusal::{ACCEPTED, BUFFER_SHORT};
-use questions::{IsrAnswer, OfferAnswer};
+use parts::refusal::Refusal;
+use questions::{Difference, Operands};
 use runs::Verdict;
 
-// How many bytes an answer on weak or strong ISR, an offer and a verdict have.
-const ISR_WIDTH: usize = 4;
-
-const OFFER_WIDTH: usize = 3;
+// How many bytes a number and a verdict have.
+const NUMBER_WIDTH: usize = 4;
 
 const VERDICT_WIDTH: usize = 250;
 
-// A state, where the number that goes with it is 0.
-pub(crate) fn give_state(refusal: u8, state: State, out: &mut [u8]) -> u8
-    ensures { Replies (state_reply refusal state) out.old result out.new }
+// The number that C sees: 0 where the answer was given, else why it was not.
+pub(crate) fn number(answer: Result<(), Refusal>) -> u8
+    ensures { result ≡ answer_number answer }
 {
-    if refusal != ACCEPTED {
-        return refusal;
+    answer.err().map_or(0, Refusal::number)
+}
+
+// A few bytes.
+fn give_bytes(bytes: &[u8], out: &mut [u8]) -> Result<(), Refusal>
+    ensures { Replies (gives bytes.now) out.old (answer_number result) out.new }
+{
+    if out.len() < bytes.len() {
+        return Err(Refusal::BufferShort);
     }
+    put_bytes(out, 0, bytes);
+    Ok(())
+}
+
+// A state.
+pub(crate) fn give_state(s: State, out: &mut [u8]) -> Result<(), Refusal>
+    ensures { Replies (gives (flat s)) out.old (answer_number result) out.new }
+{
     if out.len() < WIDTH {
-        return BUFFER_SHORT;
+        return Err(Refusal::BufferShort);
     }
-    put_state(&mut out[..], 0, state);
-    ACCEPTED
+    put_state(out, 0, s);
+    Ok(())
+}
+
+// The state of an answer, where that is not refused.
+#[tactic(auto, unfolding(crate::specs::Interface::state_reply, logic::specs::Refuse::by_refusal))]
+pub(crate) fn give_outcome(answer: Result<State, Refused>, out: &mut [u8]) -> Result<(), Refusal>
+    ensures { Replies (outcome_reply (outcome_of answer)) out.old (answer_number result) out.new }
+{
+    match answer {
+        Ok(s) => give_state(s, out),
+        Err(refused) => Err(refused.refusal),
+    }
 }
 
 // Weak or strong ISR: 1 and zeros where it holds, else 0, leader, member and offset.
-pub(crate) fn give_isr(answer: IsrAnswer, out: &mut [u8]) -> u8
-    ensures { Replies (isr_reply answer) out.old result out.new }
+#[tactic(auto, unfolding(crate::specs::Interface::isr_reply, logic::specs::Refuse::by_refusal))]
+pub(crate) fn give_isr(
+    answer: Result<Option<Difference>, Refusal>,
+    out: &mut [u8],
+) -> Result<(), Refusal>
+    ensures { Replies (isr_reply (isr_answer_of answer)) out.old (answer_number result) out.new }
 {
-    if answer.refusal != ACCEPTED {
-        return answer.refusal;
+    match answer {
+        Ok(None) => give_bytes(&[1, 0, 0, 0], out),
+        Ok(Some(d)) => give_bytes(&[0, d.leader, d.member, d.offset], out),
+        Err(refusal) => Err(refusal),
     }
-    if out.len() < ISR_WIDTH {
-        return BUFFER_SHORT;
-    }
-    let bytes = [
-        answer.holds as u8,
-        answer.leader,
-        answer.member,
-        answer.offset,
-    ];
-    put_bytes(&mut out[..], 0, &bytes);
-    ACCEPTED
 }
 
 // An offer: its operands.
-pub(crate) fn give_offer(answer: OfferAnswer, out: &mut [u8]) -> u8
-    ensures { Replies (offer_reply answer) out.old result out.new }
+#[tactic(auto, unfolding(crate::specs::Interface::offer_reply, logic::specs::Refuse::by_refusal))]
+pub(crate) fn give_offer(answer: Result<Operands, Refusal>, out: &mut [u8]) -> Result<(), Refusal>
+    ensures { Replies (offer_reply (offer_answer_of answer)) out.old (answer_number result) out.new }
 {
-    if answer.refusal != ACCEPTED {
-        return answer.refusal;
+    match answer {
+        Ok(offer) => give_bytes(&[offer.a, offer.b, offer.e], out),
+        Err(refusal) => Err(refusal),
     }
-    if out.len() < OFFER_WIDTH {
-        return BUFFER_SHORT;
+}
+
+// Numbers, each as its four low bytes, the lowest first. The caller shows that the buffer has room for them.
+fn put_numbers(out: &mut [u8], at: usize, numbers: &[usize]) -> usize
+    requires { at + 4 * length numbers.now ≤ length out.old }
+    ensures { Stored out.old at (bytes_of_numbers numbers.now) out.new result }
+{
+    let mut pos = at;
+    for n in numbers {
+        pos = put_bytes(out, pos, &n.to_le_bytes()[..NUMBER_WIDTH]);
     }
-    let bytes = [answer.a, answer.b, answer.e];
-    put_bytes(&mut out[..], 0, &bytes);
-    ACCEPTED
-}
-
-// A number as four bytes, low byte first. The caller shows that the buffer has room for them.
-fn put_number(out: &mut [u8], at: usize, n: usize) -> usize
-    requires { at + 4 ≤ length out.old }
-    ensures { Stored out.old at (number_bytes n) out.new result }
-{
-    let bytes = [
-        (n % 256) as u8,
-        (n / 256 % 256) as u8,
-        (n / 65536 % 256) as u8,
-        (n / 16777216 % 256) as u8,
-    ];
-    put_bytes(&mut out[..], at, &bytes)
-}
-
-// Three numbers. The caller shows that the buffer has room for twelve bytes.
-fn put_three(out: &mut [u8], at: usize, m: usize, n: usize, k: usize) -> usize
-    requires { at + 12 ≤ length out.old }
-    ensures { Stored out.old at (three_numbers m n k) out.new result }
-{
-    let second = put_number(&mut out[..], at, m);
-    let third = put_number(&mut out[..], second, n);
-    put_number(&mut out[..], third, k)
-}
-
-// The six numbers of a verdict and its state. The caller shows that the buffer has room for them.
-fn put_verdict(out: &mut [u8], v: Verdict) -> usize
-    requires { verdict_width ≤ length out.old }
-    ensures { Stored out.old 0 (verdict_bytes v) out.new result }
-{
-    let t = v.tally;
-    let weak = put_three(&mut out[..], 0, t.accepted, v.refusal as usize, v.at);
-    let state = put_three(&mut out[..], weak, t.weak, t.strong, t.exposed as usize);
-    put_state(&mut out[..], state, v.state)
+    pos
 }
 
 // A verdict: its six numbers and its state. It has no number of its own that refuses.
-pub(crate) fn give_verdict(v: Verdict, out: &mut [u8]) -> u8
-    ensures { Replies (gives (verdict_bytes v)) out.old result out.new }
+pub(crate) fn give_verdict(v: Verdict, out: &mut [u8]) -> Result<(), Refusal>
+    ensures { Replies (gives (verdict_bytes (verdict_of v))) out.old (answer_number result) out.new }
 {
     if out.len() < VERDICT_WIDTH {
-        return BUFFER_SHORT;
+        return Err(Refusal::BufferShort);
     }
-    put_verdict(&mut out[..], v);
-    ACCEPTED
+    let numbers = [
+        v.tally.accepted,
+        v.refusal.map_or(0, Refusal::number) as usize,
+        v.at,
+        v.tally.weak.unwrap_or(0),
+        v.tally.strong.unwrap_or(0),
+        v.tally.exposed as usize,
+    ];
+    let state = put_numbers(out, 0, &numbers);
+    put_state(out, state, v.state);
+    Ok(())
 }

@@ -1,41 +1,38 @@
-// What comes as bytes: the length of a flat state, and the places of a renaming.
-ghost use Rattle.std.specs.Prelude.{◌≡◌};
+// What comes as bytes: a flat state, and the places of a renaming.
+ghost use Rattle.std.specs.Prelude.{◌≡◌, IfOk};
+ghost use Rattle.parts.specs.Refusal.{answer_number};
+ghost use Rattle.cluster.specs.Answer.{outcome_of};
+ghost use Rattle.flat.specs.Flat.{state_of_flat};
 ghost use Rattle.replay.specs.Interface.{width_refusal, rename_by};
 
-use cluster::{Outcome, State};
+use cluster::{Refused, State};
 use flat::WIDTH;
-use parts::refusal::{ACCEPTED, LEFT_OVER, NOT_RENAMING, TOO_SHORT};
+use flat::read::state_of;
+use parts::refusal::Refusal;
+use std::cmp::Ordering;
 
-// 0 where the bytes are as many as a flat state has, 21 where they are fewer, 23 where they are more.
-pub(crate) fn width_refusal(state: &[u8]) -> u8
-    ensures { result ≡ width_refusal state.now }
+// The state of these bytes; refused where they are fewer than a flat state has, or more.
+#[tactic(auto, unfolding(crate::specs::Interface::width_refusal, logic::specs::Refuse::refuse))]
+pub(crate) fn state_of_bytes(bytes: &[u8]) -> Result<State, Refusal>
+    ensures number { answer_number result ≡ width_refusal bytes.now }
+    ensures state { IfOk result (λ s. s ≡ state_of_flat bytes.now) }
 {
-    if state.len() < WIDTH {
-        return TOO_SHORT;
+    match bytes.len().cmp(&WIDTH) {
+        Ordering::Less => Err(Refusal::TooShort),
+        Ordering::Equal => Ok(state_of(bytes)),
+        Ordering::Greater => Err(Refusal::LeftOver),
     }
-    if WIDTH < state.len() {
-        return LEFT_OVER;
-    }
-    ACCEPTED
 }
 
 // The state under five places, which may be a renaming or not; any other count of places is none.
-pub(crate) fn rename_by(s: State, places: &[u8]) -> Outcome
-    ensures { result ≡ rename_by s places.now }
+pub(crate) fn rename_by(s: State, places: &[u8]) -> Result<State, Refused>
+    ensures { outcome_of result ≡ rename_by s places.now }
 {
-    if places.len() == 5 {
-        let five = [places[0], places[1], places[2], places[3], places[4]];
-        return renamings::rename(s, five);
-    }
-    let broken = s.state_refusal();
-    if broken != ACCEPTED {
-        return Outcome {
-            refusal: broken,
-            state: s,
-        };
-    }
-    Outcome {
-        refusal: NOT_RENAMING,
-        state: s,
+    match <[u8; 5]>::try_from(places) {
+        Ok(five) => renamings::rename(s, five),
+        Err(_) => {
+            let refusal = s.validate().err().unwrap_or(Refusal::NotRenaming);
+            Err(Refused { refusal, state: s })
+        }
     }
 }

@@ -31,12 +31,9 @@ pub fn put_log(out: &mut [u8], at: usize, p: Replica, count: usize) -> usize
     requires p_in_bounds { at + length (concat_below count (record_bytes_at p)) ≤ length out.old }
     ensures { Stored out.old at (concat_below count (record_bytes_at p)) out.new result }
 {
-    let mut x: usize = 0;
     let mut pos = at;
-    while x < count {
-        let r = p.log[x];
-        pos = put_record(&mut out[..], pos, r);
-        x = x + 1;
+    for x in 0..count {
+        pos = put_record(&mut out[..], pos, p.log[x]);
     }
     pos
 }

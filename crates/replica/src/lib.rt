@@ -11,10 +11,10 @@ ghost use Rattle.replica.specs.Log.{record_in_use, log_in_use, same_record};
 ghost use Rattle.replica.specs.Entries.{offset_and_epoch, LogMet};
 ghost use Rattle.replica.specs.Change.{with_hw, with_request, append, truncate_to, truncate_under, become_follower_and_truncate_to};
 
-use parts::Leader;
+use std::array;
 
 // A record: its id, and the epoch of the leader that wrote it.
-#[derive(Clone, Copy)]
+#[derive(Clone, Copy, PartialEq, Eq)]
 pub struct Record {
     pub id: u8,
     pub epoch: i8,
@@ -25,7 +25,7 @@ pub struct Record {
 pub struct Replica {
     pub hw: u8,
     pub epoch: i8,
-    pub leader: Leader,
+    pub leader: Option<u8>,
     pub isr: u8,
     pub end: u8,
     pub log: [Record; 16],
@@ -44,37 +44,20 @@ impl Record {
     }
 
     // Rule S6 of one record.
+    #[tactic(auto, unfolding(crate::specs::Log::record_in_use))]
     fn is_in_use(self, next_id: u8, next_epoch: u8) -> bool
         ensures { result ≡ record_in_use next_id next_epoch self }
     {
-        if self.id < next_id {
-            return parts::epoch_used(next_epoch, self.epoch);
-        }
-        false
-    }
-
-    // Whether id and epoch agree.
-    fn same(self, other: Record) -> bool
-        ensures { result ≡ same_record self other }
-    {
-        if self.id == other.id {
-            return parts::same_epoch(self.epoch, other.epoch);
-        }
-        false
+        self.id < next_id && parts::epoch_used(next_epoch, self.epoch)
     }
 
     // Whether two logs hold the same record at offset x: both have it, and id and epoch agree. This one and the other are what
     // stands at x in the two arrays; the logs have these records where x is below their ends.
+    #[tactic(auto, unfolding(crate::specs::Log::same_record, logic::specs::Tests::every, parts::specs::Epoch::same_epoch))]
     pub fn same_below_ends(self, other: Record, x: u8, end: u8, other_end: u8) -> bool
         ensures { result ≡ every (ltb x end ∷ ltb x other_end ∷ same_record self other ∷ []) }
     {
-        if end <= x {
-            return false;
-        }
-        if other_end <= x {
-            return false;
-        }
-        self.same(other)
+        x < end && x < other_end && self == other
     }
 
     // The offset x, counted from 1, and this record's epoch as one number, which is never 0. Two records in use of one id agree
@@ -107,14 +90,13 @@ impl Replica {
     pub fn zero() -> Replica
         ensures { result ≡ zero_replica }
     {
-        let log = [Record { id: 0, epoch: 0 }; 16];
         Replica {
             hw: 0,
             epoch: 0,
-            leader: Leader::None,
+            leader: None,
             isr: 0,
             end: 0,
-            log: log,
+            log: [Record { id: 0, epoch: 0 }; 16],
         }
     }
 
@@ -123,14 +105,7 @@ impl Replica {
         ensures { result ≡ tidy_replica self }
     {
         let mut p = self;
-        let end = self.end;
-        let mut x: usize = 0;
-        while x < 16 {
-            let r = self.log[x];
-            let q = r.below(x, end);
-            p.log[x] = q;
-            x = x + 1;
-        }
+        p.log = array::from_fn(|x| self.log[x].below(x, self.end));
         p
     }
 
@@ -139,17 +114,9 @@ impl Replica {
         requires { self.end ≤ 16 }
         ensures { result ≡ log_in_use next_id next_epoch self }
     {
-        let n = self.end as usize;
-        let mut x: usize = 0;
-        while x < n {
-            let r = self.log[x];
-            if r.is_in_use(next_id, next_epoch) {
-                x = x + 1;
-            } else {
-                return false;
-            }
-        }
-        true
+        self.log[..self.end as usize]
+            .iter()
+            .all(|r| r.is_in_use(next_id, next_epoch))
     }
 
     // Rules S6 and S7 of the replica's log, given the records seen before it: each record is in use, and one of an id that was
@@ -159,9 +126,7 @@ impl Replica {
         requires { self.end ≤ 16 }
         ensures { LogMet next_id next_epoch self seen.old result seen.new }
     {
-        let n = self.end as usize;
-        let mut x: usize = 0;
-        while x < n {
+        for x in 0..self.end as usize {
             let r = self.log[x];
             if !r.is_in_use(next_id, next_epoch) {
                 return false;
@@ -169,7 +134,6 @@ impl Replica {
             if !meet(seen, r.id, r.offset_and_epoch(x)) {
                 return false;
             }
-            x = x + 1;
         }
         true
     }
@@ -183,74 +147,72 @@ impl Replica {
     }
 
     // The replica with another high watermark.
+    #[tactic(auto, unfolding(crate::specs::Change::with_hw))]
     pub fn with_hw(self, hw: u8) -> Replica
         ensures { result ≡ with_hw self hw }
     {
-        let mut p = self;
-        p.hw = hw;
-        p
+        Replica { hw, ..self }
     }
 
     // The replica with the epoch, the leader and the ISR of a request.
-    pub fn with_request(self, epoch: i8, leader: Leader, isr: u8) -> Replica
+    #[tactic(auto, unfolding(crate::specs::Change::with_request))]
+    pub fn with_request(self, epoch: i8, leader: Option<u8>, isr: u8) -> Replica
         ensures { result ≡ with_request self epoch leader isr }
     {
-        let log = self.log;
         Replica {
-            hw: self.hw,
-            epoch: epoch,
-            leader: leader,
-            isr: isr,
-            end: self.end,
-            log: log,
+            epoch,
+            leader,
+            isr,
+            ..self
         }
     }
 
     // The replica with a record added at its end. The caller shows that its array has room.
+    #[tactic(auto, unfolding(crate::specs::Change::append))]
     pub fn append(self, added: Record) -> Replica
         requires { self.end < 16 }
         ensures { result ≡ append self added }
     {
         let mut p = self;
-        let end = self.end;
-        let x = end as usize;
-        p.log[x] = added;
-        p.end = end + 1;
+        p.log[p.end as usize] = added;
+        p.end += 1;
         p
     }
 
     // The replica with its log cut to an offset, and zeros behind it. An offset past the end cuts nothing.
+    #[tactic(auto, unfolding(crate::specs::Change::truncate_to, crate::specs::Change::with_end))]
     fn truncate_to(self, offset: u8) -> Replica
         ensures { result ≡ truncate_to self offset }
     {
-        let mut p = self;
-        p.end = parts::smaller(offset, self.end);
-        p.tidy()
+        let end = offset.min(self.end);
+        Replica { end, ..self }.tidy()
     }
 
     // The replica with its log cut where a leader is named, and kept where none is.
-    fn truncate_under(self, leader: Leader, offset: u8) -> Replica
+    #[tactic(auto, unfolding(crate::specs::Change::truncate_under))]
+    fn truncate_under(self, leader: Option<u8>, offset: u8) -> Replica
         ensures { result ≡ truncate_under leader self offset }
     {
         match leader {
-            Leader::None => self,
-            Leader::Some(_) => self.truncate_to(offset),
+            None => self,
+            Some(_) => self.truncate_to(offset),
         }
     }
 
     // The replica as a follower under a request, with its log cut to an offset where the request names a leader, and its
     // high watermark the smaller of itself and that offset.
+    #[tactic(auto, unfolding(crate::specs::Change::become_follower_and_truncate_to))]
     pub fn become_follower_and_truncate_to(
         self,
         epoch: i8,
-        leader: Leader,
+        leader: Option<u8>,
         isr: u8,
         offset: u8,
     ) -> Replica
         ensures { result ≡ become_follower_and_truncate_to self epoch leader isr offset }
     {
-        let hw = parts::smaller(offset, self.hw);
-        let cut = self.truncate_under(leader, offset);
-        cut.with_hw(hw).with_request(epoch, leader, isr)
+        self.truncate_under(leader, offset)
+            .with_hw(offset.min(self.hw))
+            .with_request(epoch, leader, isr)
     }
 }

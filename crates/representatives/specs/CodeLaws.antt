@@ -6,7 +6,7 @@ use Rattle.logic.specs.Refuse.{by_accepted, by_refused, by_number, by_other, lis
 use Rattle.parts.specs.Refusal.{accepted}
 use Rattle.cluster.specs.declared.State.{State}
 use Rattle.cluster.specs.State.{replica_count_of, replica_in, tidy}
-use Rattle.cluster.specs.declared.Outcome.{Outcome}
+use Rattle.cluster.specs.Answer.{Outcome}
 use Rattle.cluster.specs.Outcome.{answer, as_given}
 use Rattle.cluster.specs.Rules.{rules, state_refusal, state_numbers}
 use Rattle.cluster.specs.RuleLaws.{met_refusal, state_listed, rules_bounded, rules_logs_bounded}

@@ -6,7 +6,9 @@
 --   decides a                            whether the answer a is not equal
 --   compare_bytes xs ys                  two lists compared from the front
 --   decision_below n c                   the first of the answers c 0 to c (n - 1) that decides, or equal
+--   ne_decides, lt_less, cmp_numbers     what the library's `is_ne`, `is_lt` and `cmp` answer, in these words
 --   first_stands, next_stands            what then_compare is where code finds that the first answer decides, or does not
+--   then_answers                         and where code goes on by `then_with`
 --   then_both                            where two answers together are equal, each is
 --   decision_none .. decision_passed     the turns of a loop that stops at the first answer that decides
 --   numbers_less .. equal_numbers        what compare_numbers says
@@ -25,10 +27,16 @@ use Rattle.std.proofs.Math.Decide.{dec_lt, ℕ_discrete}
 use Rattle.logic.specs.Concat.{concat_below}
 use Rattle.logic.specs.Tests.{true_false}
 use Rattle.logic.specs.Order.{precedes, first_less, first_greater, first_equal, not_before_antisymmetric}
-use Rattle.representatives.specs.declared.compare.Comparison.{Comparison}
-use Rattle.representatives.specs.declared.compare.Comparison.TheVariants.{Less, Equal, Greater}
+use Rattle.std.specs.declared.cmp.Ordering.{Ordering}
+use Rattle.std.specs.declared.cmp.Ordering.TheVariants.{Less, Equal, Greater}
+use Rattle.std.specs.Ordering.{nat_cmp, is_ne, is_lt, MatchOrdering}
+use Rattle.std.proofs.lemmas.Cmp.{ranked, by_ranked}
 
 -- ---- the definitions
+-- the three answers: the library's
+abbrev pub Comparison : Type 0
+Comparison = Ordering
+
 -- two numbers
 unfoldable pub compare_numbers : ℕ → ℕ → Comparison
 compare_numbers x y = cond (ltb x y) Less (cond (ltb y x) Greater Equal)
@@ -64,7 +72,7 @@ then_equal Less = refl
 then_equal Equal = refl
 then_equal Greater = refl
 
-then_then : (a b c : Comparison) → then_compare (then_compare a b) c ≡ then_compare a (then_compare b c)
+pub then_then : (a b c : Comparison) → then_compare (then_compare a b) c ≡ then_compare a (then_compare b c)
 unfolding then_compare
 then_then Less b c = refl
 then_then Equal b c = refl
@@ -83,12 +91,30 @@ then_next Less b h = absurd (true_false h)
 then_next Equal b h = refl
 then_next Greater b h = absurd (true_false h)
 
+-- the library's `is_ne`
+pub ne_decides : (a : Comparison) → is_ne a ≡ decides a
+unfolding decides
+ne_decides Less = refl
+ne_decides Equal = refl
+ne_decides Greater = refl
+
 -- as code finds it: first is the answer a, and d whether it decides
 pub first_stands : {first a : Comparison} {d : Bool} (b : Comparison) → first ≡ a → d ≡ decides first → d ≡ true → first ≡ then_compare a b
 first_stands {first} {a} b e k h = e ∙ then_decided a b (ap decides (sym e) ∙ sym k ∙ h)
 
 pub next_stands : {first a next b : Comparison} {d : Bool} → first ≡ a → d ≡ decides first → d ≡ false → next ≡ b → next ≡ then_compare a b
 next_stands {first} {a} {next} {b} e k h q = q ∙ then_next a b (ap decides (sym e) ∙ sym k ∙ h)
+
+-- and by the library's `then_with`: first is the answer a, and where it is equal the call that follows is known to answer b
+then_cases : (first b r : Comparison) (Called : Type 0) → MatchOrdering first (r ≡ Less) Called (r ≡ Greater) → (Called → r ≡ b) → r ≡ then_compare first b
+unfolding then_compare
+then_cases Less b r Called m f = m
+then_cases Equal b r Called m f = f m
+then_cases Greater b r Called m f = m
+
+pub then_answers : {first a b r : Comparison} (Called : Type 0) → first ≡ a → MatchOrdering first (r ≡ Less) Called (r ≡ Greater) → (Called → r ≡ b)
+    → r ≡ then_compare a b
+then_answers {first} {a} {b} {r} Called e m f = then_cases first b r Called m f ∙ ap (λ (o : Comparison). then_compare o b) e
 
 -- an answer that does not decide is equal
 undecided : (a : Comparison) → decides a ≡ false → a ≡ Equal
@@ -155,6 +181,12 @@ numbers_cases x y f g h =
       | yes l ↦ f l
       | no l ↦ elim (ℕ_discrete x y) [ yes e ↦ g e | no e ↦ h (omega arith) ]
     ]
+
+-- the library's `cmp`
+pub cmp_numbers : (x y : ℕ) → nat_cmp x y ≡ compare_numbers x y
+cmp_numbers x y =
+    by_ranked (x < y) (x ≡ y) (y < x) (nat_cmp x y) (ranked x y (nat_cmp x y) refl)
+    (λ e l. e ∙ sym (numbers_less x y l)) (λ e q. e ∙ sym (numbers_equal x y q)) (λ e l. e ∙ sym (numbers_greater x y l))
 
 pub equal_numbers : (x y : ℕ) → compare_numbers x y ≡ Equal → x ≡ y
 unfolding decides
@@ -229,6 +261,13 @@ unfoldable pub is_less : Comparison → Bool
 is_less Less = true
 is_less Equal = false
 is_less Greater = false
+
+-- the library's `is_lt`
+pub lt_less : (a : Comparison) → is_lt a ≡ is_less a
+unfolding is_less
+lt_less Less = refl
+lt_less Equal = refl
+lt_less Greater = refl
 
 -- less exactly where the first comes before the second
 pub precedes_compare : (xs ys : List ℕ) → precedes xs ys ≡ is_less (compare_bytes xs ys)

@@ -22,9 +22,8 @@ use Rattle.std.proofs.Math.Path.{ap}
 use Rattle.std.proofs.Math.Bool.{true}
 use Rattle.logic.specs.Concat.{concat_below}
 use Rattle.logic.specs.Order.{precedes}
-use Rattle.parts.specs.declared.Leader.{Leader}
 use Rattle.parts.specs.Epoch.{epoch_byte}
-use Rattle.parts.specs.Leader.{leader_byte}
+use Rattle.parts.specs.Leader.{Leader, leader_byte}
 use Rattle.replica.specs.declared.Record.{Record}
 use Rattle.replica.specs.declared.Replica.{Replica}
 use Rattle.replica.specs.Replica.{record_at}
@@ -44,9 +43,8 @@ use Rattle.renamings.specs.Rows.{renaming_of}
 use Rattle.renamings.specs.PartsRenamed.{request_in_renamed, replica_in_old}
 use Rattle.renamings.specs.TidyRenamed.{tidy_renamed}
 use Rattle.renamings.specs.RenameTheorems.{renamed_meets_rules}
-use Rattle.representatives.specs.declared.compare.Comparison.{Comparison}
-use Rattle.representatives.specs.declared.compare.Comparison.TheVariants.{Less, Equal, Greater}
-use Rattle.representatives.specs.Comparison.{compare_numbers, then_compare, compare_bytes, decision_below, then_both, equal_numbers, Begin, begin_whole, begin_same, begin_one, begin_two, begin_then, begin_concat, is_less, precedes_compare, says_less, says_equal, says_greater}
+use Rattle.std.specs.declared.cmp.Ordering.TheVariants.{Less, Equal, Greater}
+use Rattle.representatives.specs.Comparison.{Comparison, compare_numbers, then_compare, compare_bytes, decision_below, then_both, equal_numbers, Begin, begin_whole, begin_same, begin_one, begin_two, begin_then, begin_concat, is_less, precedes_compare, says_less, says_equal, says_greater}
 use Rattle.representatives.specs.Representative.{image_under}
 
 -- ---- the fields of two renamings, in the order of an image

@@ -5,7 +5,7 @@ use Rattle.logic.specs.Refuse.{by_refusal}
 use Rattle.logic.specs.Least.{least_from}
 use Rattle.parts.specs.Refusal.{accepted}
 use Rattle.cluster.specs.declared.State.{State}
-use Rattle.cluster.specs.declared.Outcome.{Outcome}
+use Rattle.cluster.specs.Answer.{Outcome}
 use Rattle.cluster.specs.State.{replica_count_of}
 use Rattle.cluster.specs.Outcome.{answer, as_given}
 use Rattle.cluster.specs.Rules.{state_refusal}

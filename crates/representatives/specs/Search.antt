@@ -1,5 +1,5 @@
 -- What the search for the least image works with: the rows that it tries, and those that it passes over. Assumes nothing.
-use Rattle.std.specs.Prelude.{ℕ, ◌+◌, ◌-◌, ◌≤◌, ◌<◌, ◌≡◌, refl, true, false, drop}
+use Rattle.std.specs.Prelude.{ℕ, ◌+◌, ◌-◌, ◌≤◌, ◌<◌, ◌≡◌, refl, true, false, drop, None, Some}
 use Rattle.std.proofs.Common.{sym, ◌∙◌, arith}
 use Rattle.std.proofs.Math.Path.{ap}
 use mathlib.Core.List.{List, [], ◌∷◌}
@@ -7,9 +7,7 @@ use Rattle.std.proofs.Math.Decide.{dec_lt}
 use Rattle.logic.specs.Concat.{concat_below}
 use Rattle.logic.specs.Order.{precedes, precedes_irreflexive}
 use Rattle.logic.specs.Least.{better, least_from, least_turn, least_end, least_filtered, least_pass, better_not_before}
-use Rattle.parts.specs.declared.Leader.{Leader}
-use Rattle.parts.specs.declared.Leader.TheVariants.{None, Some}
-use Rattle.parts.specs.Leader.{leader_byte}
+use Rattle.parts.specs.Leader.{Leader, leader_byte}
 use Rattle.cluster.specs.declared.State.{State}
 use Rattle.cluster.specs.State.{replica_count_of}
 use Rattle.cluster.specs.Rules.{rules}
@@ -18,7 +16,7 @@ use Rattle.renamings.specs.Names.{new_name, is_renaming, without_place, orders, 
 use Rattle.renamings.specs.Rename.{rename_leader, Renames}
 use Rattle.renamings.specs.Rows.{renaming_of, first-row}
 use Rattle.renamings.specs.Fitting.{fitting_rows, factorial, fitting_row, behind_group, fitting_count, fitting_at, fitting_fits, fitting_first, fitting_one, behind_bounds, group_alike}
-use Rattle.representatives.specs.declared.compare.Comparison.TheVariants.{Greater}
+use Rattle.std.specs.declared.cmp.Ordering.TheVariants.{Greater}
 use Rattle.representatives.specs.Comparison.{then_compare, is_less, numbers_greater}
 use Rattle.representatives.specs.Fields.{compare_named, compare_under, precedes_under}
 use Rattle.representatives.specs.Representative.{image_under, least_renaming}
@@ -98,14 +96,14 @@ leader_loses s h p q f g l =
 -- two renamings that give the leader one name
 leader_alike : (l : Leader) (p q : List ℕ) → new_name p (leader_byte l) ≡ new_name q (leader_byte l)
     → leader_byte (rename_leader (new_name p) l) ≡ leader_byte (rename_leader (new_name q) l)
-unfolding leader_byte rename_leader
+unfolding rename_leader
 leader_alike None p q e = refl
 leader_alike (Some b) p q e = e
 
 -- a leader that gets another name is a replica
 leader_low : (n : ℕ) → n ≤ 5 → (l : Leader) (p q : List ℕ) → is_renaming n p ≡ true → is_renaming n q ≡ true
     → leader_byte (rename_leader (new_name q) l) < leader_byte (rename_leader (new_name p) l) → leader_byte l < n
-unfolding leader_byte rename_leader
+unfolding rename_leader
 leader_low n five None p q f g h = absurd (omega arith)
 leader_low n five (Some b) p q f g h =
     elim (dec_lt b n) [

@@ -21,12 +21,13 @@ pub(crate) fn read_all<R: Read>(input: &mut R, kept: &mut [u8]) -> io::Result<us
     ensures end { OnOk result (IsAtEnd (R.remaining input.new)) }
 {
     let mut at: usize = 0;
+    // No `for`: how far a turn goes is what the read answers, and a full room ends the loop before a read of nothing would.
     while at < kept.len() {
         let more = input.read(&mut kept[at..])?;
         if more == 0 {
             return Ok(at);
         }
-        at = at + more;
+        at += more;
     }
     io::copy(input, &mut io::sink())?;
     Ok(at)

@@ -4,6 +4,7 @@
 mod input;
 mod print;
 
+use print::Lines;
 use std::io;
 use std::process::ExitCode;
 
@@ -19,7 +20,8 @@ fn main(rt: HostRuntime) -> ExitCode {
         Ok(length) => length,
         Err(error) => return fail(&rt, "standard input", error),
     };
-    match print::verdict(&rt, runs::judge(&kept[..length])) {
+    let verdict = runs::judge(&kept[..length]);
+    match print!(rt; "{}", Lines(verdict)) {
         Ok(()) => ExitCode::SUCCESS,
         Err(error) => fail(&rt, "standard output", error),
     }

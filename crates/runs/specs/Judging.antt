@@ -10,7 +10,6 @@
 --   known_begun, narrowed               KnownOfState holds of a first state of which both properties hold, and gives Narrowed of
 --                                       the next one
 --   known_after                         and it holds of the state that a step hands back
---   failed_before .. failed_now         what failed_at is, case by case
 --   verdict_at tally number at last     the verdict where the run stops
 --   resumed tally s trace               the verdict where it goes on from s with a trace
 --   run_record_here run at              the run record that starts at a byte of the run
@@ -40,8 +39,7 @@ use Rattle.questions.specs.Exposed.{exposed}
 use Rattle.questions.specs.Doubt.{ReadsWithin, holds_after_action, exposes_more}
 use Rattle.questions.proofs.DoubtTheorems.{reads_within, holds_after, exposes_no_more}
 use Rattle.runs.specs.RunRecordLaws.{names_none}
-use Rattle.runs.specs.declared.Tally.{Tally}
-use Rattle.runs.specs.declared.Verdict.{Verdict}
+use Rattle.runs.specs.Answer.{Tally, Verdict}
 use Rattle.runs.specs.Run.{configuration_width, run_record_width, action_in, act_on, run_records_of, Step, step_on, handed_back, states_in, Trace, trace_by, trace_from, weak_holds, strong_holds, tally_of, last_of, verdict_from}
 use Rattle.runs.specs.TraceLaws.{trace_accepted, trace_refused}
 
@@ -165,24 +163,6 @@ known_after tally step =
       strong = failed_not tally.strong (strong_holds (handed_back step)) tally.accepted;
       exposed = omega arith;
     }
-
--- a failure that is known stays; where none is, the state decides
-module _ (known : ℕ) (holds : Bool) (count : ℕ) where
-  pub failed_before : (known ≡ 0 → ⊥) → known ≡ failed_at known holds count
-  unfolding failed_at
-  failed_before h = go known h
-    where
-      go : (k : ℕ) → (k ≡ 0 → ⊥) → k ≡ failed_at k holds count
-      go zero f = absurd (f refl)
-      go (suc k) f = refl
-
-  pub failed_never : known ≡ 0 → holds ≡ true → 0 ≡ failed_at known holds count
-  unfolding failed_at
-  failed_never h e = rw (h, e)
-
-  pub failed_now : known ≡ 0 → holds ≡ false → count ≡ failed_at known holds count
-  unfolding failed_at
-  failed_now h e = rw (h, e)
 
 -- ---- the verdict from here: of what is counted so far, the state, the byte where the next run record starts, and what follows
 -- where the run stops

@@ -8,14 +8,14 @@ use Rattle.logic.specs.Refuse.{refuse_yes, refuse_no, refuse_zero, first_refusal
 use Rattle.parts.specs.Refusal.{accepted, too_short, run_too_long}
 use Rattle.cluster.specs.declared.Limits.{Limits}
 use Rattle.cluster.specs.declared.State.{State}
-use Rattle.cluster.specs.declared.Outcome.{Outcome}
+use Rattle.cluster.specs.Answer.{Outcome}
 use Rattle.cluster.specs.State.{limits_of, tidy}
 use Rattle.cluster.specs.Rules.{in_range, rules}
 use Rattle.cluster.specs.Outcome.{with_zeros}
 use Rattle.cluster.specs.Fresh.{fresh_state, fresh}
 use Rattle.cluster.specs.FreshLaws.{fresh_tidy, fresh_rules, fresh_accepted}
 use Rattle.questions.specs.declared.Property.{Property}
-use Rattle.questions.specs.declared.IsrAnswer.{IsrAnswer}
+use Rattle.questions.specs.Answer.{IsrAnswer}
 use Rattle.questions.specs.Isr.{ask_isr}
 use Rattle.questions.specs.IsrTheorems.{fresh_holds}
 use Rattle.runs.specs.Run.{configuration_width, longest_run, configuration_mark, run_record_refusal, configure, configuration_of, run_records_of, length_refusal, opening, Trace, trace_from, verdict_from, unopened, judge_by, judge}

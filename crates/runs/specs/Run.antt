@@ -31,16 +31,15 @@ use Rattle.parts.specs.Refusal.{accepted, wrong_mark, too_short, run_too_long}
 use Rattle.parts.specs.Mark.{byte_at, marked}
 use Rattle.cluster.specs.declared.State.{State}
 use Rattle.cluster.specs.declared.Action.{Action}
-use Rattle.cluster.specs.declared.ActionAnswer.{ActionAnswer}
-use Rattle.cluster.specs.declared.Outcome.{Outcome}
+use Rattle.cluster.specs.Answer.{ActionAnswer}
+use Rattle.cluster.specs.Answer.{Outcome}
 use Rattle.cluster.specs.State.{limits_of, zero_state}
 use Rattle.cluster.specs.Outcome.{with_zeros}
 use Rattle.cluster.specs.Fresh.{fresh}
 use Rattle.cluster.specs.Act.{action_of, refused_on, without_member, act}
 use Rattle.questions.specs.Isr.{weak_isr, strong_isr}
 use Rattle.questions.specs.Exposed.{exposed}
-use Rattle.runs.specs.declared.Tally.{Tally}
-use Rattle.runs.specs.declared.Verdict.{Verdict}
+use Rattle.runs.specs.Answer.{Tally, Verdict}
 
 -- "records of six bytes": the configuration, and each run record of an action
 abbrev pub configuration_width : ℕ

@@ -1,5 +1,5 @@
 -- What a run record answers, by its length and its mark, and what it keeps of the state before it. Assumes nothing.
-use Rattle.std.specs.Prelude.{ℕ, ◌≤◌, ◌<◌, ◌≡◌, refl, true, false, List, ◌↔◌, length}
+use Rattle.std.specs.Prelude.{ℕ, ◌≤◌, ◌<◌, ◌≡◌, refl, true, List, ◌↔◌, length}
 use Rattle.std.proofs.Math.Path.{sym, ap, subst}
 use Rattle.std.proofs.Common.{ap₂, ◌∙◌, arith}
 use Rattle.std.proofs.Math.Bool.{not}
@@ -8,21 +8,17 @@ use Rattle.logic.specs.Refuse.{refuse_yes, refuse_no, refuse_zero, first_refusal
 use Rattle.parts.specs.Refusal.{accepted, wrong_mark, too_short}
 use Rattle.parts.specs.Mark.{marked}
 use Rattle.cluster.specs.declared.State.{State}
-use Rattle.cluster.specs.declared.ActionAnswer.{ActionAnswer}
+use Rattle.cluster.specs.Answer.{ActionAnswer}
 use Rattle.cluster.specs.State.{tidy}
 use Rattle.cluster.specs.Rules.{rules}
 use Rattle.cluster.specs.Act.{action_refusal, refused_on, without_member, effect, step, act}
 use Rattle.cluster.specs.ActLaws.{answer_number, answer_zero}
 use Rattle.actions.specs.Kept.{Kept, kept_same, step_kept, step_is_act}
-use Rattle.runs.specs.declared.run_record.ActionRecord.{ActionRecord}
+use Rattle.runs.specs.Answer.{ActionRecord}
 use Rattle.runs.specs.Run.{run_record_width, action_mark, mark_refusal, run_record_refusal, action_in, act_on}
 
 -- ---- the number of a run record's mark, and that of its length and its mark
 module _ (mark : ℕ) (bytes : List ℕ) where
-  pub mark_wrong : marked mark bytes ≡ false → wrong_mark ≡ mark_refusal mark bytes
-  unfolding mark_refusal
-  mark_wrong m = refuse_yes _ wrong_mark accepted (ap not m)
-
   pub mark_right : marked mark bytes ≡ true → accepted ≡ mark_refusal mark bytes
   unfolding mark_refusal
   mark_right m = refuse_no _ wrong_mark accepted (ap not m)

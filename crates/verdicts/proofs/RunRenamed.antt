@@ -8,11 +8,11 @@
 --   opening_renamed         its length and its configuration answer what the run's do
 --   run_renamed             demand 3 of runs: the verdict of the renamed run is the renamed verdict
 --   run_bytes               a renamed run of bytes is a run of bytes
-use Rattle.std.specs.Prelude.{ℕ, zero, suc, ◌+◌, ◌*◌, ◌≤◌, ◌<◌, ◌≡◌, Bool, ◌&&◌, drop, get_or}
+use Rattle.std.specs.Prelude.{ℕ, ◌+◌, ◌*◌, ◌≤◌, ◌<◌, ◌≡◌, Bool, ◌&&◌, drop, get_or}
 use Rattle.std.proofs.Math.Path.{refl, sym, ap}
 use Rattle.std.proofs.Common.{ap₂, ◌∙◌, arith, take-append-drop, take_at, drop_at, ltb-true}
 use Rattle.std.proofs.Math.Bool.{true, false, cond}
-use mathlib.Core.List.{List, [], ◌++◌, map, flatten}
+use mathlib.Core.List.{List, [], ◌++◌, flatten}
 use Rattle.std.proofs.Math.Decide.{ℕ_discrete}
 use Rattle.std.proofs.Math.Dec.{ltb}
 use Rattle.std.proofs.Math.ListN.{length, length-append}
@@ -24,7 +24,7 @@ use Rattle.parts.specs.Mark.{byte_at}
 use Rattle.parts.specs.Bytes.{Bytes, bytes_append, bytes_set, bytes_take, bytes_drop, bytes_flatten}
 use Rattle.cluster.specs.declared.Limits.{Limits}
 use Rattle.cluster.specs.declared.State.{State}
-use Rattle.cluster.specs.declared.Outcome.{Outcome}
+use Rattle.cluster.specs.Answer.{Outcome}
 use Rattle.cluster.specs.State.{replica_count_of}
 use Rattle.runs.specs.Run.{configuration_width, run_record_width, action_mark, run_record_refusal, configure, action_in, configuration_of, run_records_of, opening, trace_from, no_tally, verdict_from, judge}
 use Rattle.runs.specs.Opening.{limits_in, first_state, opening_configures, opening_short, configuration_length, opening_in_range, opening_state, opening_limits, opening_rules, opening_tidy, opened, judge_unopened}

@@ -9,7 +9,7 @@
 --   exchanged s                     s with the blocks of replicas 1 and 2 exchanged
 --   MarkedExamples                  the marked examples 1 to 9, as one statement
 --   marked_examples                 its proof, by computing
-use Rattle.std.specs.Prelude.{ℕ, ◌≡◌, refl}
+use Rattle.std.specs.Prelude.{ℕ, ◌≡◌, refl, None}
 use mathlib.Core.List.{List, [], ◌∷◌, flatten}
 use Rattle.std.proofs.Math.Option.{or_else}
 use Rattle.logic.specs.Tests.{all_below, every, first_failing, first_fails}
@@ -18,11 +18,9 @@ use Rattle.logic.specs.Refuse.{refuse, refuse_unless, first_refusal, by_refusal}
 use Rattle.logic.specs.Greatest.{greatest_below, greatest_of}
 use Rattle.logic.specs.Search.{first_below, passing, first_third, first_second, first_triple}
 use Rattle.logic.specs.Pieces.{pieces_up_to, pieces}
-use Rattle.parts.specs.declared.Leader.TheVariants.{None}
 use Rattle.parts.specs.Mark.{mark_first, marked}
 use Rattle.parts.specs.Isr.{member, full_isr, isr_below, isr_of, without, no_other, is_alone}
 use Rattle.parts.specs.Epoch.{same_epoch, higher_epoch, last_epoch, epoch_used}
-use Rattle.parts.specs.Leader.{same_leader, leader_below, leader_none_or_in_isr}
 use Rattle.replica.specs.Replica.{tidy_replica}
 use Rattle.replica.specs.Change.{with_hw, with_end, with_request, append, truncate_to, truncate_under, become_follower_and_truncate_to}
 use Rattle.replica.specs.Log.{record_in_use, log_in_use, records_agree, record_agrees, logs_agree, same_record, hold_same_record}
@@ -37,7 +35,7 @@ use Rattle.questions.specs.Exposed.{exposed}
 use Rattle.images.specs.ImageExample.{paper_replica, paper_state}
 use Rattle.representatives.specs.Representative.{representative}
 use Rattle.representatives.specs.RepresentativeExample.{example_representative}
-use Rattle.runs.specs.declared.Verdict.{Verdict}
+use Rattle.runs.specs.Answer.{Verdict}
 use Rattle.runs.specs.Run.{configuration_mark, action_mark, mark_refusal, run_record_refusal, configure, act_on, length_refusal, opening, trace_by, trace_from, last_of, judge_by, judge}
 
 -- ---- the run records of the examples, in their words
@@ -148,8 +146,8 @@ unfolding judge judge_by last_of trace_from trace_by opening length_refusal act_
     state_refusal refuse_unless rule7 agrees_with_all rule6 rule5 replica_meets_s5 replica_matches_request rule4 rule3
     quorum_matches_request rule2 replica_in_range leader_and_isr_in_range rule1 in_range between tidy controller_update_isr
     with_next_record_id with_replica hold_same_record same_record logs_agree record_agrees records_agree log_in_use record_in_use
-    become_follower_and_truncate_to truncate_under truncate_to append with_request with_end with_hw tidy_replica leader_none_or_in_isr leader_below
-    same_leader epoch_used last_epoch higher_epoch same_epoch is_alone no_other without isr_of isr_below full_isr member marked flatten
+    become_follower_and_truncate_to truncate_under truncate_to append with_request with_end with_hw tidy_replica
+    epoch_used last_epoch higher_epoch same_epoch is_alone no_other without isr_of isr_below full_isr member marked flatten
     pieces pieces_up_to first_triple first_second first_third passing first_below or_else greatest_of greatest_below refuse first_refusal
     by_refusal table table_from first_failing every all_below
 marked_examples =

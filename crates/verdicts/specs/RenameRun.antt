@@ -5,10 +5,10 @@ use mathlib.Core.List.{List, ◌++◌, map, flatten}
 use Rattle.logic.specs.Refuse.{by_refusal}
 use Rattle.parts.specs.Refusal.{accepted}
 use Rattle.cluster.specs.declared.Action.{Action}
-use Rattle.cluster.specs.declared.ActionAnswer.{ActionAnswer}
+use Rattle.cluster.specs.Answer.{ActionAnswer}
 use Rattle.cluster.specs.State.{replica_count_of}
 use Rattle.cluster.specs.Act.{action_answer}
-use Rattle.runs.specs.declared.Verdict.{Verdict}
+use Rattle.runs.specs.Answer.{Verdict}
 use Rattle.runs.specs.Run.{run_record_width, action_mark, run_record_refusal, action_in, configuration_of, run_records_of, opening, Step, Trace}
 use Rattle.renamings.specs.Names.{new_name, is_renaming}
 use Rattle.renamings.specs.Rename.{rename_action, renamed}

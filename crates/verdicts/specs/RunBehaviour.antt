@@ -37,8 +37,8 @@ use Rattle.parts.specs.Mark.{byte_at, marked}
 use Rattle.cluster.specs.declared.Limits.{Limits}
 use Rattle.cluster.specs.declared.State.{State}
 use Rattle.cluster.specs.declared.Action.{Action}
-use Rattle.cluster.specs.declared.ActionAnswer.{ActionAnswer}
-use Rattle.cluster.specs.declared.Outcome.{Outcome}
+use Rattle.cluster.specs.Answer.{ActionAnswer}
+use Rattle.cluster.specs.Answer.{Outcome}
 use Rattle.cluster.specs.State.{replica_count_of, log_size_of, max_records_of, max_leader_epoch_of, limits_of, zero_state}
 use Rattle.cluster.specs.Rules.{in_range}
 use Rattle.cluster.specs.Outcome.{answer, with_zeros}
@@ -51,7 +51,7 @@ use Rattle.published.specs.Equality.{same_model_refl}
 use Rattle.published.specs.Choices.{Choice}
 use Rattle.published.proofs.Engine.{action_is_published}
 use Rattle.published.proofs.Behaviours.{AllAccepted, states_after, sequence_is_behaviour}
-use Rattle.runs.specs.declared.Verdict.{Verdict}
+use Rattle.runs.specs.Answer.{Verdict}
 use Rattle.runs.specs.Run.{configuration_width, run_record_width, longest_run, configuration_mark, action_mark, mark_refusal, run_record_refusal, action_in, act_on, configuration_of, run_records_of, length_refusal, opening, Step, step_on, handed_back, states_in, Trace, trace_by, trace_from, last_of, judge}
 use Rattle.runs.specs.RunRecordLaws.{run_record_whole, whole_acts, accepted_whole, accepted_acts}
 use Rattle.runs.specs.TraceLaws.{trace_cases, trace_kept, last_each}

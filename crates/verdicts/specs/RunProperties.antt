@@ -19,7 +19,7 @@ use Rattle.published.specs.KafkaReplication.{Constants, ModelState, WeakIsr, Str
 use Rattle.published.specs.Meaning.{constants_of, meaning}
 use Rattle.published.specs.Properties.{weak_is_published, strong_is_published}
 use Rattle.published.proofs.Behaviours.{states_after}
-use Rattle.runs.specs.declared.Verdict.{Verdict}
+use Rattle.runs.specs.Answer.{Verdict}
 use Rattle.runs.specs.Run.{opening, weak_holds, strong_holds, judge}
 use Rattle.runs.specs.Opening.{first_state, opening_holds, opened}
 use Rattle.verdicts.specs.RunBehaviour.{accepted_actions, states_of, state_at, constants_in, states_are, states_within, state_kept}

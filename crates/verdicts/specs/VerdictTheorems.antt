@@ -33,7 +33,7 @@ use Rattle.cluster.specs.FreshLaws.{fresh_numbers, fresh_listed}
 use Rattle.cluster.specs.Act.{refusal, act}
 use Rattle.actions.specs.Answers.{act_number, action_numbers}
 use Rattle.actions.proofs.ActionNumbers.{met_listed}
-use Rattle.runs.specs.declared.Verdict.{Verdict}
+use Rattle.runs.specs.Answer.{Verdict}
 use Rattle.runs.specs.Run.{configuration_width, run_record_width, longest_run, configuration_mark, action_mark, mark_refusal, run_record_refusal, action_in, act_on, configuration_of, run_records_of, length_refusal, opening, Step, handed_back, states_in, weak_holds, strong_holds, judge}
 use Rattle.runs.specs.RunRecordLaws.{run_record_number}
 use Rattle.runs.specs.Opening.{limits_in, trace_of, opening_number, opening_short, opening_long, opened, judge_unopened}

@@ -1,10 +1,9 @@
-use mathlib.Core.Path.{sym}
-use native.Mathlib.Omega.{arith}
+use Rattle.std.proofs.Common.{sym, ◌∙◌, arith, le-ltb}
 use Rattle.parts.specs.IsrLaws.{member_past, member_low}
 use Rattle.parts.proofs.is_member.Goals as goal
 
-pub returns-then-i-ge5 : goal.returns-then-i-ge5
-returns-then-i-ge5 c = sym (member_past c.args.isr c.args.i (omega arith))
+pub returns-then-i-lt5 : goal.returns-then-i-lt5
+returns-then-i-lt5 c = sym (member_low c.args.isr c.args.i (omega (arith, c.if-i-lt5.true)))
 
-pub returns : goal.returns
-returns c = sym (member_low c.args.isr c.args.i (omega arith))
+pub returns-else-i-lt5 : goal.returns-else-i-lt5
+returns-else-i-lt5 c = le-ltb c.args.i 5 (omega (arith, c.if-i-lt5.false)) ∙ sym (member_past c.args.isr c.args.i (omega (arith, c.if-i-lt5.false)))

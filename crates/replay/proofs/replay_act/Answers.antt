@@ -1,26 +1,34 @@
-use mathlib.Core.Path.{sym, ◌∙◌, ap}
-use native.Mathlib.Omega.{arith}
+use Rattle.std.proofs.Common.{◌≡◌, sym, arith, rules}
+use Rattle.logic.specs.Refuse.{by_refusal}
 use Rattle.cluster.specs.declared.State.{State}
+use Rattle.cluster.specs.Answer.{member_number}
 use Rattle.cluster.specs.Act.{action_of, act}
-use Rattle.replay.specs.Interface.{action_reply, replay_act}
-use Rattle.replay.specs.InterfaceLaws.{width_right, on_state_refused, member_replies, member_refused}
+use Rattle.questions.specs.IsrLaws.{refusal_not_zero}
+use Rattle.replay.specs.Interface.{action_reply, state_reply, replay_act}
+use Rattle.replay.specs.InterfaceLaws.{replies_err, on_state_refused, member_replies, member_refused}
 use Rattle.replay.proofs.replay_act.Goals as goal
 
-pub returns-then-refusal-ne-ACCEPTED : goal.returns-then-refusal-ne-ACCEPTED
+pub returns-in-Err : goal.returns-in-Err
 unfolding replay_act
-returns-then-refusal-ne-ACCEPTED c = let x = c.args in (
-  member_refused x.state.now x.kind x.a x.b x.e x.out.now _ c.width_refusal-refusal.ensures c.if-refusal-ne-ACCEPTED.true,
-  (on_state_refused x.state.now (λ (s : State). action_reply (act s (action_of x.kind x.a x.b x.e))) _ _ c.width_refusal-refusal.ensures c.if-refusal-ne-ACCEPTED.true).1,
-)
+returns-in-Err c = let x = c.args in
+    let h = c.in-Err.ensures.number in
+    rw c.number.ensures (
+      member_refused x.state.now x.kind x.a x.b x.e x.out.now _ h (refusal_not_zero _),
+      (on_state_refused x.state.now (λ (s : State). action_reply (act s (action_of x.kind x.a x.b x.e))) _ _ h (refusal_not_zero _)).1,
+    )
 
-pub state_of-requires : goal.state_of-requires
-state_of-requires c = let w = width_right _ (sym c.width_refusal-refusal.ensures ∙ c.if-refusal-ne-ACCEPTED.false) in
-    omega (arith, w)
+pub returns-in-Ok-act : goal.returns-in-Ok-act
+unfolding state_reply by_refusal
+returns-in-Ok-act c = let x = c.args in
+    let taken = c.in-Ok.ensures in
+    let m =
+    member_replies x.state.now x.kind x.a x.b x.e _ _ _ _ (sym taken.number) (rw taken.state at c.in-Ok-act.ensures) c.give_state.ensures in
+    (omega (arith, m.0, c.number-in-Ok-act.ensures), m.1)
 
-pub returns : goal.returns
-returns c = let x = c.args in
-    member_replies x.state.now x.kind x.a x.b x.e _ _ _ _
-    (sym c.width_refusal-refusal.ensures ∙ c.if-refusal-ne-ACCEPTED.false)
-    (c.act-answer.ensures
-    ∙ ap (λ (s : State). act s (action_of x.kind x.a x.b x.e)) c.state_of.ensures)
-    c.give_state-number.ensures
+pub returns-in-Err-act : goal.returns-in-Err-act
+unfolding state_reply
+returns-in-Err-act c = let x = c.args in
+    let taken = c.in-Ok.ensures in
+    let member : c.unwrap_or.result ≡ member_number c.in-Err-act.r.member = search rules in
+    rw (c.number-in-Err-act.ensures, member)
+    (member_replies x.state.now x.kind x.a x.b x.e _ _ _ _ (sym taken.number) (rw taken.state at c.in-Err-act.ensures) (replies_err _ _ _))

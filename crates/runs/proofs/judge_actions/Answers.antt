@@ -1,178 +1,129 @@
-use Prim.Native.Nat.{ℕ, ◌+◌, ◌<◌, ◌-◌}
-use mathlib.Core.Path.{◌≡◌, refl, sym, ap, ap₂, ◌∙◌}
-use native.Mathlib.Omega.{arith}
-use native.Mathlib.Nat.{add-sub_cancel_left}
-use lib.ListN.{length, take, drop, length-take, length-drop}
-use lib.Seq.{length-take-le}
-use Rattle.logic.specs.Refuse.{first_refusal}
+use Rattle.std.proofs.Common.{rules, ℕ, Some, ◌≡◌, ◌+◌, ◌*◌, ◌<◌, ◌≤◌, min, List, length, take, drop, refl, sym, ap, ap₂, ◌∙◌, arith, drop_at, drop-drop, take_all, length-drop}
+use Rattle.std.proofs.Math.Seq.{take-append_seam}
+use Rattle.std.proofs.lemmas.List.{take_min}
+use Rattle.std.specs.Iterator.Adapters.{enumerate_source, enumerate_count}
+use Rattle.std.specs.Slice.Iter.{chunks_rest, chunks_size, chunks_steps}
 use Rattle.logic.specs.Tests.{first_failing}
-use Rattle.parts.specs.Refusal.{accepted, too_short}
+use Rattle.parts.specs.Refusal.{accepted, refusal_number}
 use Rattle.cluster.specs.declared.State.{State}
-use Rattle.cluster.specs.Rules.{rules}
-use Rattle.cluster.specs.Act.{action_refusal, effect}
-use Rattle.actions.specs.Kept.{Kept}
-use Rattle.runs.specs.declared.run_record.ActionRecord.{ActionRecord}
-use Rattle.runs.specs.declared.Tally.{Tally}
-use Rattle.runs.specs.Run.{configuration_width, run_record_width, act_on, run_records_of, step_on, trace_from, verdict_from}
-use Rattle.runs.specs.RunRecordLaws.{read_action, short_number, read_number, accepted_number, accepted_state, act_on_kept}
-use Rattle.runs.specs.Judging.{accepted_step, step_accepted, tally_after, known_begun, narrowed, known_after, verdict_at, run_record_here, from_here, here_begun, here_end, here_refused, here_on}
+use Rattle.cluster.specs.Act.{effect}
+use Rattle.questions.specs.IsrLaws.{refusal_not_zero}
+use Rattle.runs.specs.Answer.{Tally, counts_of}
+use Rattle.runs.specs.Run.{configuration_width, run_record_width, act_on, step_on}
+use Rattle.runs.specs.Judging.{accepted_step, tally_after, known_begun, narrowed, known_after, verdict_at, run_record_here, here_begun, here_end, here_refused, here_on}
+use Rattle.runs.specs.CodeLaws.{taken_whole, taken_accepted, taken_state, taken_tidy, taken_step}
 use Rattle.runs.proofs.judge_actions.Goals as goal
 
-pub loop-at-init : goal.loop-at-init
+-- what a turn takes from the run: the run record that starts here, as far as there is one; the rest stands behind it
+module _ (run : List ℕ) (at : ℕ) (s t : _) (b : _) (steps : chunks_steps {A = ℕ} s (Some b) t) (size : chunks_size s ≡ run_record_width) (left : chunks_rest s ≡ drop at run) where
+  starts_here : at < length run
+  starts_here = omega (arith, steps.1.2, ap length left, length-drop at run)
+
+  bytes_here : b.now ≡ run_record_here run at
+  bytes_here =
+      let long : length b.now ≡ min run_record_width (length (chunks_rest s)) = steps.1.1 ∙ ap (λ k. min k (length (chunks_rest s))) size in
+      sym (ap (take run_record_width) (sym left)
+      ∙ sym (take_min run_record_width (chunks_rest s))
+      ∙ ap (λ n. take n (chunks_rest s)) (sym long)
+      ∙ ap (take (length b.now)) steps.1.0
+      ∙ take-append_seam b.now (chunks_rest t))
+
+  module _ (whole : run_record_width ≤ length b.now) where
+    fits_here : at + run_record_width ≤ length run
+    fits_here = omega (arith, steps.1.1, size, ap length left, length-drop at run)
+
+    rest_here : chunks_rest t ≡ drop (at + run_record_width) run
+    rest_here =
+        let six : length b.now ≡ run_record_width = omega (arith, steps.1.1, size) in
+        sym (drop_at b.now (chunks_rest t) run_record_width six) ∙ ap (drop run_record_width) (sym steps.1.0 ∙ left) ∙ drop-drop run_record_width at run
+
+pub loop-i-init : goal.loop-i-init
 unfolding first_failing
-loop-at-init c = let e = c.begun-tally.ensures in
-    let count : c.begun-tally.result.accepted ≡ 0 = ap (λ (tally : Tally). tally.accepted) e in (
-      omega arith,
-      omega arith,
+loop-i-init c =
+    let e = c.begun-tally.ensures in
+    let begun : enumerate_count c.into_iter-i-iterator.result ≡ 0 = search rules in (
       search rules,
+      tt,
       search rules,
-      rw e (known_begun c.args.fresh c.requires.fresh_value_3 c.requires.fresh_value_4),
-      refl,
+      rw begun
+          (ap (λ s. chunks_rest (enumerate_source s)) c.into_iter-i-iterator.ensures.into_iter_gives
+          ∙ ap chunks_rest c.enumerate-i-items.ensures.source
+          ∙ c.chunks-records.ensures.rest
+          ∙ take_all _ (drop configuration_width c.args.run.now) (rw length-drop (omega arith))),
+      omega (arith, begun),
+      ap (λ (t : Tally). t.accepted) e ∙ sym begun,
+      search rules,
+      rw e (known_begun c.args.fresh.state c.requires.fresh_weak c.requires.fresh_strong),
+      rw (e, begun) (here_begun c.args.fresh.state c.args.run.now),
     )
 
-pub returns-then-run-at-lt-RUN_RECORD_WIDTH : goal.returns-then-run-at-lt-RUN_RECORD_WIDTH
-returns-then-run-at-lt-RUN_RECORD_WIDTH c = let whole : let fresh = c.args.fresh in verdict_from fresh (trace_from fresh configuration_width (run_records_of (c.args.run.now))) ≡ from_here c.loop-at.tally c.loop-at.state c.loop-at.at (c.args.run.now) = let fresh = c.args.fresh in
-    here_begun fresh (c.args.run.now)
-    ∙ ap (λ (tally : Tally). from_here tally fresh configuration_width (c.args.run.now)) (sym c.begun-tally.ensures)
-    ∙ c.loop-at.invariant.5 in
-    let stops : (number : ℕ) → c.loop-at.at < length (c.args.run.now) → number ≡ ((act_on c.loop-at.state (run_record_here (c.args.run.now) c.loop-at.at))).refusal → (number ≡ accepted → ⊥) → let fresh = c.args.fresh in verdict_at c.loop-at.tally number c.loop-at.at c.loop-at.state ≡ verdict_from fresh (trace_from fresh configuration_width (run_records_of (c.args.run.now))) = λ number h e refused. let l = c.loop-at in
-    ap (λ (n : ℕ). verdict_at l.tally n l.at l.state) e
-    ∙ here_refused l.tally l.state l.at (c.args.run.now) h (λ q. refused (e ∙ q))
-    ∙ sym whole in
-    let z = c in
+pub returns-in-Err : goal.returns-in-Err
+returns-in-Err c =
+    let l = c.loop-i in
+    let s = l.valid.state in
+    let run = c.args.run.now in
+    let at = configuration_width + run_record_width * enumerate_count l.i-iterator in
+    let source = enumerate_source l.i-iterator in
+    let rest = enumerate_source c.next.new.self in
+    let steps = c.in-Some.ensures.steps in
+    let r = c.in-Err.refusal in
+    let refused : refusal_number r ≡ (act_on s (run_record_here run at)).refusal =
+    c.in-Err.ensures.number ∙ ap (λ (b : List ℕ). (act_on s b).refusal) (bytes_here run at source rest c.in-Some.bytes steps.0 l.invariant.2 l.invariant.3) in
     c.verdict.ensures
-    ∙ stops too_short c.loop-at-test.true
-    (short_number z.loop-at.state (run_record_here (z.args.run.now) z.loop-at.at) (rw (length-take, length-drop) (omega arith)))
-    (λ q. omega arith)
+    ∙ ap₂ (λ (i n : ℕ). verdict_at (counts_of l.tally) n (configuration_width + run_record_width * i) s) steps.1 refused
+    ∙ here_refused (counts_of l.tally) s at run (starts_here run at source rest c.in-Some.bytes steps.0 l.invariant.2 l.invariant.3) (λ q. refusal_not_zero r (refused ∙ q))
+    ∙ sym l.invariant.8
 
-pub overflow_add-at : goal.overflow_add-at
-overflow_add-at c = omega arith
+pub after-tally-requires-clause-narrowed : goal.after-tally-requires-clause-narrowed
+after-tally-requires-clause-narrowed c =
+    let l = c.loop-i in
+    let s = l.valid.state in
+    let ok = taken_accepted s c.in-Some.bytes.now c.in-Ok.action l.valid.meets_rules l.invariant.6 c.in-Ok.ensures.number c.in-Ok.ensures.action in
+    rw (c.new-valid.ensures, c.effect.ensures) (narrowed (counts_of l.tally) s c.in-Ok.action l.invariant.7 l.valid.meets_rules l.invariant.6 ok)
 
-pub slice_bounds-read_action-count : goal.slice_bounds-read_action-count
-slice_bounds-read_action-count c = omega arith
-
-pub slice_bounds-read_action-start : goal.slice_bounds-read_action-start
-slice_bounds-read_action-start c = omega arith
-
-pub slice_bounds-read_action-end : goal.slice_bounds-read_action-end
-slice_bounds-read_action-end c = omega arith
-
-pub read_action-record-requires : goal.read_action-record-requires
-read_action-record-requires c = let part : take (c.loop-at.at + run_record_width - c.loop-at.at) (drop c.loop-at.at (c.args.run.now)) ≡ (run_record_here (c.args.run.now) c.loop-at.at) = ap (λ (k : ℕ). take k (drop c.loop-at.at (c.args.run.now))) (add-sub_cancel_left c.loop-at.at run_record_width) in
-    let six : length (run_record_here (c.args.run.now) c.loop-at.at) ≡ run_record_width = let l = c in
-    length-take-le run_record_width (drop l.loop-at.at (l.args.run.now)) (rw length-drop (omega arith)) in
-    ap length part ∙ six
-
-pub returns-then-refusal-ne-ACCEPTED : goal.returns-then-refusal-ne-ACCEPTED
-returns-then-refusal-ne-ACCEPTED c = let whole : let fresh = c.args.fresh in verdict_from fresh (trace_from fresh configuration_width (run_records_of (c.args.run.now))) ≡ from_here c.loop-at.tally c.loop-at.state c.loop-at.at (c.args.run.now) = let fresh = c.args.fresh in
-    here_begun fresh (c.args.run.now)
-    ∙ ap (λ (tally : Tally). from_here tally fresh configuration_width (c.args.run.now)) (sym c.begun-tally.ensures)
-    ∙ c.loop-at.invariant.5 in
-    let stops : (number : ℕ) → c.loop-at.at < length (c.args.run.now) → number ≡ ((act_on c.loop-at.state (run_record_here (c.args.run.now) c.loop-at.at))).refusal → (number ≡ accepted → ⊥) → let fresh = c.args.fresh in verdict_at c.loop-at.tally number c.loop-at.at c.loop-at.state ≡ verdict_from fresh (trace_from fresh configuration_width (run_records_of (c.args.run.now))) = λ number h e refused. let l = c.loop-at in
-    ap (λ (n : ℕ). verdict_at l.tally n l.at l.state) e
-    ∙ here_refused l.tally l.state l.at (c.args.run.now) h (λ q. refused (e ∙ q))
-    ∙ sym whole in
-    let part : take (c.loop-at.at + run_record_width - c.loop-at.at) (drop c.loop-at.at (c.args.run.now)) ≡ (run_record_here (c.args.run.now) c.loop-at.at) = ap (λ (k : ℕ). take k (drop c.loop-at.at (c.args.run.now))) (add-sub_cancel_left c.loop-at.at run_record_width) in
-    let six : length (run_record_here (c.args.run.now) c.loop-at.at) ≡ run_record_width = let l = c in
-    length-take-le run_record_width (drop l.loop-at.at (l.args.run.now)) (rw length-drop (omega arith)) in
-    let read : c.read_action-record.result ≡ read_action (run_record_here (c.args.run.now) c.loop-at.at) = c.read_action-record.ensures ∙ ap read_action part in
-    let number : c.refusal_on-refusal.result ≡ ((act_on c.loop-at.state (run_record_here (c.args.run.now) c.loop-at.at))).refusal = let l = c in
-    c.refusal_on-refusal.ensures
-    ∙ ap (λ (r : ActionRecord). first_refusal r.refusal (action_refusal l.loop-at.state r.action)) read
-    ∙ read_number l.loop-at.state (run_record_here (l.args.run.now) l.loop-at.at) l.loop-at.invariant.2 l.loop-at.invariant.3 (omega (arith, six)) in
-    let z = c in
-    c.verdict-then-refusal-ne-ACCEPTED.ensures
-    ∙ stops c.refusal_on-refusal.result c.loop-at-test.true
-    number c.if-refusal-ne-ACCEPTED.true
-
-pub effect-state-requires : goal.effect-state-requires
-effect-state-requires c = let part : take (c.loop-at.at + run_record_width - c.loop-at.at) (drop c.loop-at.at (c.args.run.now)) ≡ (run_record_here (c.args.run.now) c.loop-at.at) = ap (λ (k : ℕ). take k (drop c.loop-at.at (c.args.run.now))) (add-sub_cancel_left c.loop-at.at run_record_width) in
-    let six : length (run_record_here (c.args.run.now) c.loop-at.at) ≡ run_record_width = let l = c in
-    length-take-le run_record_width (drop l.loop-at.at (l.args.run.now)) (rw length-drop (omega arith)) in
-    let read : c.read_action-record.result ≡ read_action (run_record_here (c.args.run.now) c.loop-at.at) = c.read_action-record.ensures ∙ ap read_action part in
-    let number : c.refusal_on-refusal.result ≡ ((act_on c.loop-at.state (run_record_here (c.args.run.now) c.loop-at.at))).refusal = let l = c in
-    c.refusal_on-refusal.ensures
-    ∙ ap (λ (r : ActionRecord). first_refusal r.refusal (action_refusal l.loop-at.state r.action)) read
-    ∙ read_number l.loop-at.state (run_record_here (l.args.run.now) l.loop-at.at) l.loop-at.invariant.2 l.loop-at.invariant.3 (omega (arith, six)) in
-    let ok : ((act_on c.loop-at.state (run_record_here (c.args.run.now) c.loop-at.at))).refusal ≡ accepted = sym number ∙ c.if-refusal-ne-ACCEPTED.false in
-    let allowed : action_refusal c.loop-at.state c.read_action-record.result.action ≡ accepted = let l = c in
-    ap (λ (r : ActionRecord). action_refusal l.loop-at.state r.action) read
-    ∙ accepted_number l.loop-at.state (run_record_here (l.args.run.now) l.loop-at.at) l.loop-at.invariant.2 l.loop-at.invariant.3 ok in
-    record { self_value = c.loop-at.invariant.2; action_value = allowed }
-
-pub after-tally-requires : goal.after-tally-requires
-after-tally-requires c = let part : take (c.loop-at.at + run_record_width - c.loop-at.at) (drop c.loop-at.at (c.args.run.now)) ≡ (run_record_here (c.args.run.now) c.loop-at.at) = ap (λ (k : ℕ). take k (drop c.loop-at.at (c.args.run.now))) (add-sub_cancel_left c.loop-at.at run_record_width) in
-    let six : length (run_record_here (c.args.run.now) c.loop-at.at) ≡ run_record_width = let l = c in
-    length-take-le run_record_width (drop l.loop-at.at (l.args.run.now)) (rw length-drop (omega arith)) in
-    let read : c.read_action-record.result ≡ read_action (run_record_here (c.args.run.now) c.loop-at.at) = c.read_action-record.ensures ∙ ap read_action part in
-    let number : c.refusal_on-refusal.result ≡ ((act_on c.loop-at.state (run_record_here (c.args.run.now) c.loop-at.at))).refusal = let l = c in
-    c.refusal_on-refusal.ensures
-    ∙ ap (λ (r : ActionRecord). first_refusal r.refusal (action_refusal l.loop-at.state r.action)) read
-    ∙ read_number l.loop-at.state (run_record_here (l.args.run.now) l.loop-at.at) l.loop-at.invariant.2 l.loop-at.invariant.3 (omega (arith, six)) in
-    let ok : ((act_on c.loop-at.state (run_record_here (c.args.run.now) c.loop-at.at))).refusal ≡ accepted = sym number ∙ c.if-refusal-ne-ACCEPTED.false in
-    let allowed : action_refusal c.loop-at.state c.read_action-record.result.action ≡ accepted = let l = c in
-    ap (λ (r : ActionRecord). action_refusal l.loop-at.state r.action) read
-    ∙ accepted_number l.loop-at.state (run_record_here (l.args.run.now) l.loop-at.at) l.loop-at.invariant.2 l.loop-at.invariant.3 ok in
-    let handed : c.effect-state.result ≡ ((act_on c.loop-at.state (run_record_here (c.args.run.now) c.loop-at.at))).state = let l = c in
-    c.effect-state.ensures
-    ∙ ap (λ (r : ActionRecord). effect l.loop-at.state r.action) read
-    ∙ accepted_state l.loop-at.state (run_record_here (l.args.run.now) l.loop-at.at) l.loop-at.invariant.2 l.loop-at.invariant.3 ok in
-    let kept : Kept c.loop-at.state c.effect-state.result = let l = c in
-    rw handed (act_on_kept l.loop-at.state (run_record_here (l.args.run.now) l.loop-at.at) l.loop-at.invariant.2 l.loop-at.invariant.3) in
-    let l = c in record {
-      next_value = kept.rules;
-      accepted_le_longest_run = omega arith;
-      narrowed = rw c.effect-state.ensures
-          (narrowed l.loop-at.tally l.loop-at.state c.read_action-record.result.action
-          l.loop-at.invariant.4 l.loop-at.invariant.2 l.loop-at.invariant.3 allowed);
-    }
-
-pub overflow_add-at-in-loop-at : goal.overflow_add-at-in-loop-at
-overflow_add-at-in-loop-at c = let z = c in
-    omega (arith, c.loop-at-test.true, z.requires.run_len_bound)
-
-pub loop-at-smaller : goal.loop-at-smaller
-loop-at-smaller c = omega arith
-
-pub loop-at-preserved : goal.loop-at-preserved
-loop-at-preserved c = let part : take (c.loop-at.at + run_record_width - c.loop-at.at) (drop c.loop-at.at (c.args.run.now)) ≡ (run_record_here (c.args.run.now) c.loop-at.at) = ap (λ (k : ℕ). take k (drop c.loop-at.at (c.args.run.now))) (add-sub_cancel_left c.loop-at.at run_record_width) in
-    let six : length (run_record_here (c.args.run.now) c.loop-at.at) ≡ run_record_width = let l = c in
-    length-take-le run_record_width (drop l.loop-at.at (l.args.run.now)) (rw length-drop (omega arith)) in
-    let read : c.read_action-record.result ≡ read_action (run_record_here (c.args.run.now) c.loop-at.at) = c.read_action-record.ensures ∙ ap read_action part in
-    let number : c.refusal_on-refusal.result ≡ ((act_on c.loop-at.state (run_record_here (c.args.run.now) c.loop-at.at))).refusal = let l = c in
-    c.refusal_on-refusal.ensures
-    ∙ ap (λ (r : ActionRecord). first_refusal r.refusal (action_refusal l.loop-at.state r.action)) read
-    ∙ read_number l.loop-at.state (run_record_here (l.args.run.now) l.loop-at.at) l.loop-at.invariant.2 l.loop-at.invariant.3 (omega (arith, six)) in
-    let ok : ((act_on c.loop-at.state (run_record_here (c.args.run.now) c.loop-at.at))).refusal ≡ accepted = sym number ∙ c.if-refusal-ne-ACCEPTED.false in
-    let handed : c.effect-state.result ≡ ((act_on c.loop-at.state (run_record_here (c.args.run.now) c.loop-at.at))).state = let l = c in
-    c.effect-state.ensures
-    ∙ ap (λ (r : ActionRecord). effect l.loop-at.state r.action) read
-    ∙ accepted_state l.loop-at.state (run_record_here (l.args.run.now) l.loop-at.at) l.loop-at.invariant.2 l.loop-at.invariant.3 ok in
-    let kept : Kept c.loop-at.state c.effect-state.result = let l = c in
-    rw handed (act_on_kept l.loop-at.state (run_record_here (l.args.run.now) l.loop-at.at) l.loop-at.invariant.2 l.loop-at.invariant.3) in
-    let counted : let l = c in c.after-tally.result ≡ tally_after l.loop-at.tally (step_on l.loop-at.state (run_record_here (l.before.before.before.args.run.now) l.loop-at.at)) = let l = c in
+pub loop-i-preserved : goal.loop-i-preserved
+loop-i-preserved c =
+    let l = c.loop-i in
+    let s = l.valid.state in
+    let met = l.valid.meets_rules in
+    let tidied = l.invariant.6 in
+    let run = c.args.run.now in
+    let at = configuration_width + run_record_width * enumerate_count l.i-iterator in
+    let source = enumerate_source l.i-iterator in
+    let rest = enumerate_source c.next.new.self in
+    let bytes = c.in-Some.bytes in
+    let steps = c.in-Some.ensures.steps in
+    let action = c.in-Ok.action in
+    let ok = c.in-Ok.ensures.number in
+    let read = c.in-Ok.ensures.action in
+    let six = taken_whole s bytes.now action met tidied ok read in
+    let here = bytes_here run at source rest bytes steps.0 l.invariant.2 l.invariant.3 in
+    let made : c.new-valid.result.state ≡ effect s action = c.new-valid.ensures ∙ c.effect.ensures in
+    let next : c.new-valid.result.state ≡ (act_on s bytes.now).state = made ∙ taken_state s bytes.now action met tidied ok read in
+    let counted : counts_of c.after-tally.result ≡ tally_after (counts_of l.tally) (step_on s bytes.now) =
     c.after-tally.ensures
-    ∙ ap₂ (λ (r : ActionRecord) (next : State). tally_after l.loop-at.tally (accepted_step r.action next))
-    read handed
-    ∙ ap (tally_after l.loop-at.tally) (step_accepted l.loop-at.state (run_record_here (l.args.run.now) l.loop-at.at) ok) in
-    let z = c in
-    let e = counted in
-    let count : c.after-tally.result.accepted ≡ z.loop-at.tally.accepted + 1 = ap (λ (tally : Tally). tally.accepted) e in
-    let fits = c.if-run-at-lt-RUN_RECORD_WIDTH.false in (
-      omega (arith, fits),
-      omega arith,
-      kept.rules,
-      kept.tidy,
-      rw (e, handed) (known_after z.loop-at.tally (step_on z.loop-at.state (run_record_here (z.args.run.now) z.loop-at.at))),
-      z.loop-at.invariant.5
-          ∙ here_on z.loop-at.tally z.loop-at.state z.loop-at.at (z.args.run.now) (omega (arith, fits)) ok
-          ∙ ap₂ (λ (tally : Tally) (s : State). from_here tally s (z.loop-at.at + run_record_width) (z.args.run.now)) (sym e) (sym handed),
+    ∙ ap (λ (next : State). tally_after (counts_of l.tally) (accepted_step action next)) made
+    ∙ ap (tally_after (counts_of l.tally)) (taken_step s bytes.now action met tidied ok read) in
+    let on : configuration_width + run_record_width * enumerate_count c.next.new.self ≡ at + run_record_width = omega (arith, steps.2) in
+    let fits = fits_here run at source rest bytes steps.0 l.invariant.2 l.invariant.3 six in (
+      search rules,
+      tt,
+      steps.0.0 ∙ l.invariant.2,
+      rw on (rest_here run at source rest bytes steps.0 l.invariant.2 l.invariant.3 six),
+      rw on fits,
+      ap (λ (t : Tally). t.accepted) counted ∙ omega (arith, steps.2, l.invariant.5),
+      rw made (taken_tidy s bytes.now action met tidied ok read),
+      rw (counted, next) (known_after (counts_of l.tally) (step_on s bytes.now)),
+      l.invariant.8 ∙ here_on (counts_of l.tally) s at run fits (rw here at (sym ok)) ∙ rw (counted, next, on, here) refl,
     )
 
 pub returns : goal.returns
-returns c = let whole : let fresh = c.args.fresh in verdict_from fresh (trace_from fresh configuration_width (run_records_of (c.args.run.now))) ≡ from_here c.loop-at.tally c.loop-at.state c.loop-at.at (c.args.run.now) = let fresh = c.args.fresh in
-    here_begun fresh (c.args.run.now)
-    ∙ ap (λ (tally : Tally). from_here tally fresh configuration_width (c.args.run.now)) (sym c.begun-tally.ensures)
-    ∙ c.loop-at.invariant.5 in
-    let z = c in
-    c.verdict-2.ensures ∙ here_end z.loop-at.tally z.loop-at.state z.loop-at.at (z.args.run.now) (omega arith) ∙ sym whole
+returns c =
+    let l = c.loop-i in
+    let run = c.args.run.now in
+    let at = configuration_width + run_record_width * enumerate_count l.i-iterator in
+    let ends : length run ≡ at = omega (arith, c.in-None.ensures.steps.0.1.0, length-drop at run, ap length l.invariant.3, l.invariant.4) in
+    c.verdict-2.ensures
+    ∙ ap (λ (n : ℕ). verdict_at (counts_of l.tally) accepted n l.valid.state) ends
+    ∙ here_end (counts_of l.tally) l.valid.state at run (omega (arith, ends))
+    ∙ sym l.invariant.8

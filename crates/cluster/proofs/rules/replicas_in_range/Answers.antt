@@ -1,17 +1,17 @@
-use mathlib.Core.Path.{sym, ◌∙◌}
-use native.Mathlib.Omega.{arith}
-use Rattle.logic.specs.Tests.{all_none, all_more, all_done, all_fails}
-use Rattle.cluster.specs.Rules.{replica_in_range_at}
+use Rattle.std.specs.Prelude.{take}
+use Rattle.std.proofs.Common.{rules, tests, ◌∙◌, arith}
+use Rattle.std.proofs.lemmas.Iterator.{YieldsList-from_slice}
+use Rattle.std.proofs.lemmas.Iterator.Search.{all_from_yields_List}
+use Rattle.logic.specs.Chains.{all_taken}
+use Rattle.replica.specs.Replica.{no_replica}
+use Rattle.cluster.specs.State.{replica_count_of}
+use Rattle.cluster.specs.Rules.{replica_in_range}
+use Rattle.cluster.proofs.Owned.{shaped_of}
 use Rattle.cluster.proofs.rules.replicas_in_range.Goals as goal
 
-pub loop-i-init : goal.loop-i-init
-loop-i-init c = (omega arith, all_none _)
-
-pub loop-i-preserved : goal.loop-i-preserved
-loop-i-preserved c = (omega arith, all_more _ _ c.loop-i.invariant.1 (sym c.replica_in_range.ensures ∙ c.if-replica_in_range.true))
-
-pub returns-else-replica_in_range : goal.returns-else-replica_in_range
-returns-else-replica_in_range c = let s = c.args in all_fails _ c.loop-i.i (replica_in_range_at s.s.limits s.s.replicas) (omega arith) (sym c.replica_in_range.ensures ∙ c.if-replica_in_range.false)
-
 pub returns : goal.returns
-returns c = all_done _ _ _ (omega arith) (omega arith) c.loop-i.invariant.1
+returns c = let s = c.args.s in
+    let n = replica_count_of s.limits in
+    let test = replica_in_range s.limits in
+    all_from_yields_List test _ _ c.all.result c.all.ensures.ran (YieldsList-from_slice (take n s.replicas) cc) (λ x b q k. search (rules, tests))
+    ∙ all_taken test no_replica n s.replicas (omega (arith, c.requires.replicas, (shaped_of s _ c.well_formed.0).replicas))

@@ -13,7 +13,7 @@ use Rattle.cluster.specs.OnePass.{pass_tests, log_fails}
 use Rattle.cluster.proofs.rules.replicas_meet.Goals as goal
 
 pub loop-i-init : goal.loop-i-init
-loop-i-init c = (omega arith, all_none _, all_none _, all_none _, passing_start (entries_at c.args.s.replicas) (replicate 256 0))
+loop-i-init c = (all_none _, all_none _, all_none _, passing_start (entries_at c.args.s.replicas) (replicate 256 0))
 
 pub returns-then-not-replica_in_range : goal.returns-then-not-replica_in_range
 returns-then-not-replica_in_range c = let s = c.args.s in
@@ -34,23 +34,22 @@ log_meets_s6_s7-requires c = let s = c.args.s in
 pub returns-then-not-log_meets_s6_s7 : goal.returns-then-not-log_meets_s6_s7
 returns-then-not-log_meets_s6_s7 c = let s = c.args.s in
     let l = c.loop-i in
-    log_fails s l.i l.seen _ (omega arith) l.invariant.4 (rw (c.if-not-log_meets_s6_s7.true) at c.log_meets_s6_s7.ensures)
+    log_fails s l.i l.seen _ (omega arith) l.invariant.3 (rw (c.if-not-log_meets_s6_s7.true) at c.log_meets_s6_s7.ensures)
 
 pub loop-i-preserved : goal.loop-i-preserved
 loop-i-preserved c = let s = c.args.s in
     let l = c.loop-i in
     let w = log_passes (next_record_id_of s) (next_leader_epoch_of s) (replica_in s.replicas l.i) l.seen _ (rw (c.if-not-log_meets_s6_s7.false) at c.log_meets_s6_s7.ensures) in (
-      omega arith,
-      all_more _ _ l.invariant.1 (sym c.replica_in_range.ensures ∙ c.if-not-replica_in_range.false),
-      all_more _ _ l.invariant.2 (sym c.replica_meets_s5.ensures ∙ c.if-not-replica_meets_s5.false),
-      all_more _ _ l.invariant.3 w.0,
-      passing_more (entries_at s.replicas) (replicate 256 0) l.i true l.seen _ l.invariant.4 w.1 refl,
+      all_more _ _ l.invariant.0 (sym c.replica_in_range.ensures ∙ c.if-not-replica_in_range.false),
+      all_more _ _ l.invariant.1 (sym c.replica_meets_s5.ensures ∙ c.if-not-replica_meets_s5.false),
+      all_more _ _ l.invariant.2 w.0,
+      passing_more (entries_at s.replicas) (replicate 256 0) l.i true l.seen _ l.invariant.3 w.1 refl,
     )
 
 pub returns : goal.returns
 unfolding rule5 rule6
 returns c = let s = c.args.s in
     let l = c.loop-i in
-    sym (every_and _ _ (sym (all_done _ _ _ (omega arith) (omega arith) l.invariant.1)) (every_and _ _ (sym (all_done _ _ _ (omega arith) (omega arith) l.invariant.2))
-    (every_and _ _ (sym (all_done _ _ _ (omega arith) (omega arith) l.invariant.3))
-    (every_and _ _ (sym (passing_end (entries_at s.replicas) (replicate 256 0) _ l.i l.seen l.invariant.0 (omega arith) l.invariant.4).agree) every_none))))
+    sym (every_and _ _ (sym (all_done _ _ _ (omega arith) (omega arith) l.invariant.0)) (every_and _ _ (sym (all_done _ _ _ (omega arith) (omega arith) l.invariant.1))
+    (every_and _ _ (sym (all_done _ _ _ (omega arith) (omega arith) l.invariant.2))
+    (every_and _ _ (sym (passing_end (entries_at s.replicas) (replicate 256 0) _ l.i l.seen (omega arith) (omega arith) l.invariant.3).agree) every_none))))

@@ -1,17 +1,17 @@
-use mathlib.Core.Path.{sym, ◌∙◌}
-use native.Mathlib.Omega.{arith}
-use Rattle.logic.specs.Tests.{all_none, all_more, all_done, all_fails}
-use Rattle.cluster.specs.Rules.{request_leader_in_isr}
+use Rattle.std.specs.Prelude.{◌≡◌, Bool, length, take}
+use Rattle.std.proofs.Common.{rules, tests, ◌∙◌, arith}
+use Rattle.std.proofs.lemmas.Iterator.{YieldsList-from_slice}
+use Rattle.std.proofs.lemmas.Iterator.Search.{all_from_yields_List}
+use Rattle.logic.specs.Chains.{all_taken}
+use Rattle.logic.specs.Table.{length_mapped}
+use Rattle.parts.specs.Leader.{leader_none_or_in_isr}
+use Rattle.cluster.specs.declared.Request.{Request}
+use Rattle.cluster.specs.State.{zero_request}
 use Rattle.cluster.proofs.rules.request_leaders_in_isr.Goals as goal
 
-pub loop-e-init : goal.loop-e-init
-loop-e-init c = (omega arith, all_none _)
-
-pub loop-e-preserved : goal.loop-e-preserved
-loop-e-preserved c = (omega arith, all_more _ _ c.loop-e.invariant.1 (sym c.none_or_in_isr.ensures ∙ c.if-none_or_in_isr.true))
-
-pub returns-else-none_or_in_isr : goal.returns-else-none_or_in_isr
-returns-else-none_or_in_isr c = let s = c.args in all_fails _ c.loop-e.e (request_leader_in_isr s.requests) (omega arith) (sym c.none_or_in_isr.ensures ∙ c.if-none_or_in_isr.false)
-
 pub returns : goal.returns
-returns c = all_done _ _ _ (omega arith) (omega arith) c.loop-e.invariant.1
+returns c = let a = c.args in
+    let test : Request → Bool = λ q. leader_none_or_in_isr q.isr q.leader in
+    let h : length a.requests ≡ 16 = search (rules, length_mapped) in
+    all_from_yields_List test _ _ c.all.result c.all.ensures.ran (YieldsList-from_slice (take a.next a.requests) cc) (λ x b q k. search (rules, tests))
+    ∙ all_taken test zero_request a.next a.requests (omega (arith, h, c.requires))

@@ -1,17 +1,17 @@
-use mathlib.Core.Path.{sym, ◌∙◌}
-use native.Mathlib.Omega.{arith}
-use Rattle.logic.specs.Tests.{all_none, all_more, all_done, all_fails}
-use Rattle.cluster.specs.Rules.{request_in_range_at}
+use Rattle.std.specs.Prelude.{◌≡◌, Bool, length, take}
+use Rattle.std.proofs.Common.{rules, tests, ◌∙◌, arith}
+use Rattle.std.proofs.lemmas.Iterator.{YieldsList-from_slice}
+use Rattle.std.proofs.lemmas.Iterator.Search.{all_from_yields_List}
+use Rattle.logic.specs.Chains.{all_taken}
+use Rattle.logic.specs.Table.{length_mapped}
+use Rattle.cluster.specs.declared.Request.{Request}
+use Rattle.cluster.specs.State.{zero_request}
+use Rattle.cluster.specs.Rules.{leader_and_isr_in_range}
 use Rattle.cluster.proofs.rules.requests_in_range.Goals as goal
 
-pub loop-e-init : goal.loop-e-init
-loop-e-init c = (omega arith, all_none _)
-
-pub loop-e-preserved : goal.loop-e-preserved
-loop-e-preserved c = (omega arith, all_more _ _ c.loop-e.invariant.1 (sym c.leader_and_isr_in_range.ensures ∙ c.if-leader_and_isr_in_range.true))
-
-pub returns-else-leader_and_isr_in_range : goal.returns-else-leader_and_isr_in_range
-returns-else-leader_and_isr_in_range c = let s = c.args in all_fails _ c.loop-e.e (request_in_range_at s.count s.requests) (omega arith) (sym c.leader_and_isr_in_range.ensures ∙ c.if-leader_and_isr_in_range.false)
-
 pub returns : goal.returns
-returns c = all_done _ _ _ (omega arith) (omega arith) c.loop-e.invariant.1
+returns c = let a = c.args in
+    let test : Request → Bool = λ q. leader_and_isr_in_range a.count q.leader q.isr in
+    let h : length a.requests ≡ 16 = search (rules, length_mapped) in
+    all_from_yields_List test _ _ c.all.result c.all.ensures.ran (YieldsList-from_slice (take a.next a.requests) cc) (λ x b q k. search (rules, tests))
+    ∙ all_taken test zero_request a.next a.requests (omega (arith, h, c.requires.next_bound))

@@ -1,23 +1,33 @@
-use mathlib.Core.Path.{sym, ◌∙◌}
-use native.Mathlib.Omega.{arith}
-use Rattle.logic.specs.Tests.{all_none, all_more, all_done, all_fails}
-use Rattle.cluster.specs.State.{next_leader_epoch_of, next_record_id_of}
-use Rattle.cluster.specs.Rules.{log_in_use_at, rule6}
+use Prim.Native.Nat.{◌≤◌, ◌<◌}
+use Rattle.std.specs.Prelude.{◌≡◌, take}
+use Rattle.std.proofs.Common.{rules, tests, ◌∙◌, arith}
+use Rattle.std.proofs.lemmas.List.{get_or-take, get_or_default}
+use Rattle.std.proofs.lemmas.Iterator.{YieldsList-from_slice}
+use Rattle.std.proofs.lemmas.Iterator.Adapters.{serves_from_places}
+use Rattle.std.proofs.lemmas.Iterator.Search.{all_from_yields_List}
+use Rattle.logic.specs.Chains.{all_taken}
+use Rattle.replica.specs.Replica.{no_replica}
+use Rattle.replica.specs.Log.{log_in_use}
+use Rattle.cluster.specs.State.{replica_at, replica_count_of, next_leader_epoch_of, next_record_id_of}
+use Rattle.cluster.specs.Rules.{rule6}
+use Rattle.cluster.proofs.Owned.{shaped_of}
 use Rattle.cluster.proofs.rules.rule_6.Goals as goal
 
-pub loop-i-init : goal.loop-i-init
-loop-i-init c = (omega arith, all_none _)
-
-pub log_is_in_use-requires : goal.log_is_in_use-requires
-log_is_in_use-requires c = c.requires.logs_bounded c.loop-i.i (omega arith)
-
-pub loop-i-preserved : goal.loop-i-preserved
-loop-i-preserved c = (omega arith, all_more _ _ c.loop-i.invariant.1 (sym c.log_is_in_use.ensures ∙ c.if-log_is_in_use.true))
-
-pub returns-else-log_is_in_use : goal.returns-else-log_is_in_use
-unfolding rule6
-returns-else-log_is_in_use c = let s = c.args in all_fails _ c.loop-i.i (log_in_use_at (next_record_id_of s.s) (next_leader_epoch_of s.s) s.s.replicas) (omega arith) (sym c.log_is_in_use.ensures ∙ c.if-log_is_in_use.false)
+pub all-requires-clause-callable : goal.all-requires-clause-callable
+all-requires-clause-callable c = let s = c.args.s in
+    let n = replica_count_of s.limits in
+    let long = (shaped_of s _ c.well_formed.0).replicas in
+    serves_from_places (YieldsList-from_slice (take n s.replicas) cc) (λ x q r. search rules)
+    (λ x k b e.
+    let below : k < n = omega (arith, b, c.requires.bounded.replicas, long) in
+    let found : x.now ≡ replica_at s k = e ∙ get_or-take n s.replicas k x.now below ∙ get_or_default s.replicas k x.now no_replica (omega (arith, c.requires.bounded.replicas, long)) in
+    let within : x.now.end ≤ 16 = rw found (c.requires.logs_bounded k below) in
+    search within)
 
 pub returns : goal.returns
 unfolding rule6
-returns c = all_done _ _ _ (omega arith) (omega arith) c.loop-i.invariant.1
+returns c = let s = c.args.s in
+    let n = replica_count_of s.limits in
+    let test = log_in_use (next_record_id_of s) (next_leader_epoch_of s) in
+    all_from_yields_List test _ _ c.all.result c.all.ensures.ran (YieldsList-from_slice (take n s.replicas) cc) (λ x b q k. search (rules, tests))
+    ∙ all_taken test no_replica n s.replicas (omega (arith, c.requires.bounded.replicas, (shaped_of s _ c.well_formed.0).replicas))

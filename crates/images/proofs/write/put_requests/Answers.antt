@@ -1,24 +1,20 @@
-use native.Mathlib.Omega.{arith}
-use Rattle.logic.specs.Stores.{stored_length, storing_start, storing_room, storing_more, storing_end}
+use Rattle.std.proofs.Common.{arith}
+use Rattle.std.proofs.lemmas.List.{get_or-take, length-take}
+use Rattle.logic.specs.Stores.{storing_start, storing_room, storing_more}
+use Rattle.cluster.specs.State.{zero_request}
 use Rattle.images.specs.WriteLaws.{request_bytes_in}
 use Rattle.images.proofs.write.put_requests.Goals as goal
 
-pub loop-e-init : goal.loop-e-init
-loop-e-init c = (omega arith, storing_start _ _ _)
+pub loop-q-init : goal.loop-q-init
+loop-q-init c = storing_start _ _ _
 
 pub put_request-pos-requires : goal.put_request-pos-requires
 put_request-pos-requires c = let a = c.args in
-    let l = c.loop-e in
-    storing_room (request_bytes_in a.requests) l.e a.count (omega arith) l.invariant.1 (omega arith)
+    let l = c.loop-q in
+    storing_room (request_bytes_in a.requests) l.q-index a.count (omega (arith, length-take a.count a.requests)) l.invariant (omega arith)
 
-pub loop-e-preserved : goal.loop-e-preserved
-loop-e-preserved c = let l = c.loop-e in
-    (omega arith, storing_more (request_bytes_in c.args.requests) l.e l.invariant.1 c.put_request-pos.ensures)
-
-pub shape_of-out : goal.shape_of-out
-shape_of-out c = stored_length c.loop-e.invariant.1
-
-pub returns : goal.returns
-returns c = let a = c.args in
-    let l = c.loop-e in
-    storing_end (request_bytes_in a.requests) l.e a.count l.invariant.0 (omega arith) l.invariant.1
+pub loop-q-preserved : goal.loop-q-preserved
+loop-q-preserved c = let a = c.args in
+    let l = c.loop-q in
+    storing_more (request_bytes_in a.requests) l.q-index l.invariant
+    (rw (get_or-take a.count a.requests l.q-index zero_request (omega (arith, length-take a.count a.requests))) at c.put_request-pos.ensures)

@@ -1,10 +1,7 @@
-use Prim.Native.Nat.{ℕ, ◌+◌, ◌*◌, ◌-◌, ◌≤◌, ◌<◌}
-use mathlib.Core.Path.{◌≡◌, refl, ap, ◌∙◌}
-use mathlib.Core.List.{List}
-use native.Mathlib.Omega.{arith}
-use lib.ListN.{get_or}
-use Rattle.logic.specs.Table.{table, table_from}
-use Rattle.renamings.specs.Fitting.{factorial, part_numbers, held_by, last_place, fitting_row, fitting_most, last_high, part_at, last_cong}
+use Rattle.std.proofs.Common.{ℕ, List, ◌+◌, ◌*◌, ◌-◌, ◌≤◌, ◌<◌, ◌≡◌, get_or, ap, ◌∙◌, arith, rules, tests}
+use Rattle.logic.specs.Chains.{table_made}
+use Rattle.renamings.specs.Fitting.{factorial, part_numbers, held_by, last_place, fitting_row, fitting_most, fitting_wide, last_high, part_at, last_cong}
+use Rattle.renamings.specs.CodeLaws.{served}
 use Rattle.renamings.proofs.rows.fitting_row.Goals as goal
 
 module _ (n k first : ℕ) (part : List ℕ) (is : part ≡ part_numbers first) (small : n ≤ 5) (from : first ≤ k)
@@ -22,69 +19,36 @@ module _ (n k first : ℕ) (part : List ℕ) (is : part ≡ part_numbers first) 
   high : (j : ℕ) → j < n → 5 - n ≤ get_or part (5 * (k - first) + (5 - n + j)) 0
   high j h = rw (held (5 - n + j) (omega arith)) (last_high n k j small in_rows h)
 
-pub last_place-requires : goal.last_place-requires
-last_place-requires c =
-    let a = c.args in
-    let r = c.requires in
-    record {
-      n_bound = r.n_bound;
-      i_bound = omega (arith, r.k_bound);
-      n_bound_2 = high a.n a.k a.first a.part.now r.part_value r.n_bound r.first_le_k r.k_bound r.k_bound_2 0;
-    }
+  -- so its last places are those of the row
+  named : (j : ℕ) → last_place n (λ x. get_or part (5 * (k - first) + x) 0) j ≡ last_place n (held_by k) j
+  named = last_cong n (λ x. get_or part (5 * (k - first) + x) 0) (held_by k) small held
 
-pub last_place-requires-2 : goal.last_place-requires-2
-last_place-requires-2 c =
-    let a = c.args in
-    let r = c.requires in
-    record {
-      n_bound = r.n_bound;
-      i_bound = omega (arith, r.k_bound);
-      n_bound_2 = high a.n a.k a.first a.part.now r.part_value r.n_bound r.first_le_k r.k_bound r.k_bound_2 1;
-    }
+pub from_fn-requires : goal.from_fn-requires
+from_fn-requires c = let a = c.args in
+    let r = c.requires in (
+      omega arith,
+      served _ _ _ _ _ (λ x q v. search rules)
+          (λ t x u st.
+          let low : x < 5 = omega (arith, st.0, st.1) in
+          let above = high a.n a.k a.first a.part.now r.part_value r.n_bound r.first_le_k r.k_bound r.k_bound_2 x in
+          let here : a.k - a.first < 24 = omega (arith, r.k_bound) in
+          search rules),
+    )
 
-pub last_place-requires-3 : goal.last_place-requires-3
-last_place-requires-3 c =
-    let a = c.args in
+pub new-requires : goal.new-requires
+unfolding fitting_row
+new-requires c = let a = c.args in
     let r = c.requires in
-    record {
-      n_bound = r.n_bound;
-      i_bound = omega (arith, r.k_bound);
-      n_bound_2 = high a.n a.k a.first a.part.now r.part_value r.n_bound r.first_le_k r.k_bound r.k_bound_2 2;
-    }
-
-pub last_place-requires-4 : goal.last_place-requires-4
-last_place-requires-4 c =
-    let a = c.args in
-    let r = c.requires in
-    record {
-      n_bound = r.n_bound;
-      i_bound = omega (arith, r.k_bound);
-      n_bound_2 = high a.n a.k a.first a.part.now r.part_value r.n_bound r.first_le_k r.k_bound r.k_bound_2 3;
-    }
-
-pub last_place-requires-5 : goal.last_place-requires-5
-last_place-requires-5 c =
-    let a = c.args in
-    let r = c.requires in
-    record {
-      n_bound = r.n_bound;
-      i_bound = omega (arith, r.k_bound);
-      n_bound_2 = high a.n a.k a.first a.part.now r.part_value r.n_bound r.first_le_k r.k_bound r.k_bound_2 4;
-    }
+    rw (table_made _ _ 0 (last_place a.n (held_by a.k)) 5
+    (λ j y q b k. let e = named a.n a.k a.first a.part.now r.part_value r.n_bound r.first_le_k r.k_bound r.k_bound_2 j in search (rules, tests))
+    c.from_fn.result c.from_fn.ensures.items)
+    (fitting_wide a.n a.k r.n_bound r.k_bound_2)
 
 pub returns : goal.returns
-unfolding fitting_row table table_from
-returns c =
-    let a = c.args in
+unfolding fitting_row
+returns c = let a = c.args in
     let r = c.requires in
-    let held-here : (x : ℕ) → x < 5 → get_or a.part.now (5 * (a.k - a.first) + x) 0 ≡ held_by a.k x =
-    held a.n a.k a.first a.part.now r.part_value r.n_bound r.first_le_k r.k_bound r.k_bound_2 in
-    let named : (j : ℕ) → last_place a.n (λ x. get_or a.part.now (5 * (a.k - a.first) + x) 0) j ≡ last_place a.n (held_by a.k) j =
-    last_cong a.n (λ x. get_or a.part.now (5 * (a.k - a.first) + x) 0) (held_by a.k) r.n_bound held-here in
-    rw (
-      c.last_place.ensures ∙ named 0,
-      c.last_place-2.ensures ∙ named 1,
-      c.last_place-3.ensures ∙ named 2,
-      c.last_place-4.ensures ∙ named 3,
-      c.last_place-5.ensures ∙ named 4,
-    ) refl
+    c.new.ensures
+    ∙ table_made _ _ 0 (last_place a.n (held_by a.k)) 5
+    (λ j y q b k. let e = named a.n a.k a.first a.part.now r.part_value r.n_bound r.first_le_k r.k_bound r.k_bound_2 j in search (rules, tests))
+    c.from_fn.result c.from_fn.ensures.items

@@ -1,18 +1,10 @@
-use mathlib.Core.Path.{sym, ◌∙◌, ap}
-use Rattle.cluster.specs.RuleLaws.{refusal_met}
-use Rattle.renamings.specs.Rename.{rename}
-use Rattle.replay.specs.InterfaceLaws.{five_places, rename_five, rename_uncounted_broken, rename_uncounted}
+use Rattle.std.proofs.Common.{◌∙◌}
+use Rattle.replay.specs.InterfaceLaws.{rename_five, rename_uncounted}
 use Rattle.replay.proofs.take.rename_by.Goals as goal
 
-pub returns-then-places-eq5 : goal.returns-then-places-eq5
-returns-then-places-eq5 c = let a = c.args in
-    c.rename.ensures ∙ ap (rename a.s) (five_places a.places.now c.if-places-eq5.true) ∙ rename_five a.s a.places.now c.if-places-eq5.true
+pub returns-in-Ok : goal.returns-in-Ok
+returns-in-Ok c = let whole = c.in-Ok.ensures.1 in
+    rw whole.same at c.rename.ensures ∙ rename_five _ _ whole.long
 
-pub returns-then-broken-ne-ACCEPTED : goal.returns-then-broken-ne-ACCEPTED
-returns-then-broken-ne-ACCEPTED c = let a = c.args in
-    rw c.state_refusal-broken.ensures
-    (rename_uncounted_broken a.s a.places.now c.if-places-eq5.false (λ e. c.if-broken-ne-ACCEPTED.true (c.state_refusal-broken.ensures ∙ e)))
-
-pub returns : goal.returns
-returns c = let a = c.args in
-    rename_uncounted a.s a.places.now c.if-places-eq5.false (refusal_met a.s (sym c.state_refusal-broken.ensures ∙ c.if-broken-ne-ACCEPTED.false))
+pub returns-in-Err : goal.returns-in-Err
+returns-in-Err c = rw (c.unwrap_or-refusal.ensures, c.err.ensures.value) (rename_uncounted _ _ c.in-Err.ensures.1 _ c.validate.ensures.number)

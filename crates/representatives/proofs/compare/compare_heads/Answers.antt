@@ -1,31 +1,13 @@
-use mathlib.Core.Path.{◌≡◌, ◌∙◌, ap}
-use mir.Syntax.{w8}
-use mir.Facts.{to_z-of_z}
+use Rattle.std.proofs.Common.{rules, ◌∙◌, ◌≡◌}
 use Rattle.parts.specs.Epoch.{epoch_byte}
-use Rattle.representatives.specs.Comparison.{first_stands, next_stands}
-use Rattle.representatives.specs.Fields.{compare_two, compare_heads}
+use Rattle.representatives.specs.Comparison.{compare_numbers, then_answers, then_then}
+use Rattle.representatives.specs.Fields.{compare_two, compare_named, compare_heads}
 use Rattle.representatives.proofs.compare.compare_heads.Goals as goal
-
-pub returns-then-decides : goal.returns-then-decides
-unfolding compare_heads
-returns-then-decides c = let began : let a = c.args in c.compare_two-first.result ≡ compare_two a.a.hw (epoch_byte a.a.epoch) a.b.hw (epoch_byte a.b.epoch) = let a = c.args in
-    let e : c.epoch_byte.result ≡ epoch_byte a.a.epoch = c.epoch_byte.ensures ∙ ap epoch_byte (to_z-of_z {w = w8} {z = a.a.epoch} (record { sfits = c.struct_told-1.given.1.0.1 })) in
-    let f : c.epoch_byte-2.result ≡ epoch_byte a.b.epoch = c.epoch_byte-2.ensures ∙ ap epoch_byte (to_z-of_z {w = w8} {z = a.b.epoch} (record { sfits = c.struct_told-2-1.given.1.0.1 })) in
-    rw (e, f) at c.compare_two-first.ensures in
-    first_stands _ began c.decides.ensures c.if-decides.true
-
-pub returns-then-decides-2 : goal.returns-then-decides-2
-unfolding compare_heads
-returns-then-decides-2 c = let began : let a = c.args in c.compare_two-first.result ≡ compare_two a.a.hw (epoch_byte a.a.epoch) a.b.hw (epoch_byte a.b.epoch) = let a = c.args in
-    let e : c.epoch_byte.result ≡ epoch_byte a.a.epoch = c.epoch_byte.ensures ∙ ap epoch_byte (to_z-of_z {w = w8} {z = a.a.epoch} (record { sfits = c.struct_told-1.given.1.0.1 })) in
-    let f : c.epoch_byte-2.result ≡ epoch_byte a.b.epoch = c.epoch_byte-2.ensures ∙ ap epoch_byte (to_z-of_z {w = w8} {z = a.b.epoch} (record { sfits = c.struct_told-2-1.given.1.0.1 })) in
-    rw (e, f) at c.compare_two-first.ensures in
-    next_stands began c.decides.ensures c.if-decides.false (first_stands _ c.compare_named-second.ensures c.decides-2.ensures c.if-decides-2.true)
 
 pub returns : goal.returns
 unfolding compare_heads
-returns c = let began : let a = c.args in c.compare_two-first.result ≡ compare_two a.a.hw (epoch_byte a.a.epoch) a.b.hw (epoch_byte a.b.epoch) = let a = c.args in
-    let e : c.epoch_byte.result ≡ epoch_byte a.a.epoch = c.epoch_byte.ensures ∙ ap epoch_byte (to_z-of_z {w = w8} {z = a.a.epoch} (record { sfits = c.struct_told-1.given.1.0.1 })) in
-    let f : c.epoch_byte-2.result ≡ epoch_byte a.b.epoch = c.epoch_byte-2.ensures ∙ ap epoch_byte (to_z-of_z {w = w8} {z = a.b.epoch} (record { sfits = c.struct_told-2-1.given.1.0.1 })) in
-    rw (e, f) at c.compare_two-first.ensures in
-    next_stands began c.decides.ensures c.if-decides.false (next_stands c.compare_named-second.ensures c.decides-2.ensures c.if-decides-2.false c.compare_numbers.ensures)
+returns c = let a = c.args.a in
+    let b = c.args.b in
+    let began : c.compare_two.result ≡ compare_two a.hw (epoch_byte a.epoch) b.hw (epoch_byte b.epoch) = search rules in
+    then_answers _ (then_answers _ began c.then_with.ensures (λ r. search rules)) c.then_with-2.ensures (λ r. search rules)
+    ∙ then_then _ (compare_named c.args.p.names c.args.q.names a.leader a.isr b.leader b.isr) (compare_numbers a.end b.end)

@@ -1,6 +1,0 @@
-use Rattle.cluster.specs.Actions.{leader_expand_isr}
-use Rattle.cluster.proofs.State.leader_expand_isr.Goals as goal
-
-pub returns : goal.returns
-unfolding leader_expand_isr
-returns c = c.quorum_update_leader_and_isr.ensures
