@@ -22,6 +22,7 @@ ghost use Rattle.cluster.specs.Fresh.{fresh};
 
 use parts::refusal::Refusal;
 use replica::Replica;
+use rules::SizedState;
 pub use valid::ValidState;
 
 // A configuration: R replicas, logs of L records, M record ids, leader epochs 0 to X.
@@ -209,25 +210,25 @@ impl State {
         ensures number { answer_number result ≡ state_refusal self }
         ensures state { IfOk result (λ valid. valid.state ≡ self) }
     {
-        if rules::meets_rules(self) {
+        let Some(sized) = SizedState::new(self) else {
+            return Err(Refusal::BreaksS1);
+        };
+        if rules::meets_rules(sized) {
             return Ok(ValidState::new(self));
         }
-        if !rules::rule_1(self) {
-            return Err(Refusal::BreaksS1);
-        }
-        if !rules::rule_2(self) {
+        if !rules::rule_2(sized) {
             return Err(Refusal::BreaksS2);
         }
-        if !rules::rule_3(self) {
+        if !rules::rule_3(sized) {
             return Err(Refusal::BreaksS3);
         }
-        if !rules::rule_4(self) {
+        if !rules::rule_4(sized) {
             return Err(Refusal::BreaksS4);
         }
-        if !rules::rule_5(self) {
+        if !rules::rule_5(sized) {
             return Err(Refusal::BreaksS5);
         }
-        if !rules::rule_6(self) {
+        if !rules::rule_6(sized) {
             return Err(Refusal::BreaksS6);
         }
         Err(Refusal::BreaksS7)

@@ -1,5 +1,6 @@
-// The state rules S1 to S7. Each rule after S1 relies on those before it: its `requires` says what it takes from them.
-ghost use Rattle.std.specs.Prelude.{None, ◌≡◌, ◌≤◌, ◌<◌, not, ◌&&◌, ◌||◌, eqb};
+// The state rules S1 to S7. Each rule after S1 relies on those before it: it takes a state that meets S1, and where it asks for more
+// its `requires` says what.
+ghost use Rattle.std.specs.Prelude.{None, is_some, IfSome, true, ◌≡◌, ◌≤◌, ◌<◌, not, ◌&&◌, ◌||◌, eqb};
 ghost use Rattle.logic.specs.Tests.{all_below, every};
 ghost use Rattle.parts.specs.Isr.{member};
 ghost use Rattle.parts.specs.Leader.{names, same_leader};
@@ -37,11 +38,27 @@ pub fn sizes_in_range(c: Limits, next_epoch: u8, next_id: u8) -> bool
     limits_in_range(c) && next_epoch <= c.max_leader_epoch + 1 && next_id <= c.max_records
 }
 
-// S1: R, L, M, X in range; next epoch at most X+1; next id at most M.
-pub(crate) fn rule_1(s: State) -> bool
-    ensures { result ≡ rule1 s.limits (next_leader_epoch_of s) (next_record_id_of s) }
-{
-    sizes_in_range(s.limits, s.next_leader_epoch, s.next_record_id)
+// A state that meets S1. What S1 says of its sizes stands beside: no array of it is read past its end.
+#[derive(Clone, Copy)]
+pub(crate) struct SizedState {
+    pub(crate) state: State,
+    ghost meets_s1: { rule1 state.limits (next_leader_epoch_of state) (next_record_id_of state) ≡ true },
+    ghost bounded: { Bounded state },
+    ghost short_logs: { log_size_of state.limits ≤ 16 },
+}
+
+impl SizedState {
+    // The state where it meets S1: R, L, M, X in range; next epoch at most X+1; next id at most M.
+    #[tactic(auto, using(crate::specs::RuleLaws::bounded_of, crate::specs::RuleLaws::sizes_of))]
+    pub(crate) fn new(state: State) -> Option<SizedState>
+        ensures meets_s1 { is_some result ≡ rule1 state.limits (next_leader_epoch_of state) (next_record_id_of state) }
+        ensures state { IfSome result (λ sized. sized.state ≡ state) }
+    {
+        if !sizes_in_range(state.limits, state.next_leader_epoch, state.next_record_id) {
+            return None;
+        }
+        Some(SizedState { state })
+    }
 }
 
 // Whether a leader and an ISR are within n replicas.
@@ -63,12 +80,11 @@ fn replica_in_range(c: Limits, p: Replica) -> bool
 }
 
 // S2 of every replica.
-fn replicas_in_range(s: State) -> bool
-    requires { Bounded s }
-    ensures { result ≡ all_below (replica_count_of s.limits) (replica_in_range_at s.limits s.replicas) }
+fn replicas_in_range(s: SizedState) -> bool
+    ensures { result ≡ all_below (replica_count_of s.state.limits) (replica_in_range_at s.state.limits s.state.replicas) }
 {
-    let c = s.limits;
-    s.replicas[..c.replica_count as usize]
+    let c = s.state.limits;
+    s.state.replicas[..c.replica_count as usize]
         .iter()
         .all(|p| replica_in_range(c, *p))
 }
@@ -86,20 +102,18 @@ fn requests_in_range(requests: [Request; 16], next: u8, count: u8) -> bool
 
 // S2 of the quorum and of every request.
 #[tactic(auto, unfolding(crate::specs::OnePass::quorum_and_requests_in_range))]
-fn quorum_and_requests_in_range(s: State) -> bool
-    requires { Bounded s }
-    ensures { result ≡ quorum_and_requests_in_range s }
+fn quorum_and_requests_in_range(s: SizedState) -> bool
+    ensures { result ≡ quorum_and_requests_in_range s.state }
 {
-    let n = s.limits.replica_count;
-    leader_and_isr_in_range(n, s.quorum.leader, s.quorum.isr)
-        && requests_in_range(s.requests, s.next_leader_epoch, n)
+    let n = s.state.limits.replica_count;
+    leader_and_isr_in_range(n, s.state.quorum.leader, s.state.quorum.isr)
+        && requests_in_range(s.state.requests, s.state.next_leader_epoch, n)
 }
 
 // S2: every end at most L; every leader none or below R; every ISR within the replicas.
 #[tactic(auto, unfolding(crate::specs::Rules::rule2, logic::specs::Tests::every))]
-pub(crate) fn rule_2(s: State) -> bool
-    requires { Bounded s }
-    ensures { result ≡ rule2 s.limits (next_leader_epoch_of s) s.quorum s.requests s.replicas }
+pub(crate) fn rule_2(s: SizedState) -> bool
+    ensures { result ≡ rule2 s.state.limits (next_leader_epoch_of s.state) s.state.quorum s.state.requests s.state.replicas }
 {
     quorum_and_requests_in_range(s) && replicas_in_range(s)
 }
@@ -127,16 +141,15 @@ fn quorum_matches_request(count: u8, q: Quorum, requests: [Request; 16], next: u
 
 // S3: quorum epoch is next epoch minus 1; at -1 no leader and a full ISR, otherwise the leader of the last request.
 #[tactic(auto, unfolding(crate::specs::Rules::rule3, parts::specs::Epoch::same_epoch))]
-pub(crate) fn rule_3(s: State) -> bool
-    requires { Bounded s }
-    ensures { result ≡ rule3 (replica_count_of s.limits) (next_leader_epoch_of s) s.quorum s.requests }
+pub(crate) fn rule_3(s: SizedState) -> bool
+    ensures { result ≡ rule3 (replica_count_of s.state.limits) (next_leader_epoch_of s.state) s.state.quorum s.state.requests }
 {
-    s.quorum.epoch == parts::last_epoch(s.next_leader_epoch)
+    s.state.quorum.epoch == parts::last_epoch(s.state.next_leader_epoch)
         && quorum_matches_request(
-            s.limits.replica_count,
-            s.quorum,
-            s.requests,
-            s.next_leader_epoch,
+            s.state.limits.replica_count,
+            s.state.quorum,
+            s.state.requests,
+            s.state.next_leader_epoch,
         )
 }
 
@@ -152,14 +165,14 @@ fn request_leaders_in_isr(requests: [Request; 16], next: u8) -> bool
 
 // S4: in the quorum and in each request, the leader is none or in the ISR there.
 #[tactic(auto, unfolding(crate::specs::Rules::rule4))]
-pub(crate) fn rule_4(s: State) -> bool
-    requires { Bounded s }
-    ensures { result ≡ rule4 (next_leader_epoch_of s) s.quorum s.requests }
+pub(crate) fn rule_4(s: SizedState) -> bool
+    ensures { result ≡ rule4 (next_leader_epoch_of s.state) s.state.quorum s.state.requests }
 {
-    s.quorum
+    s.state
+        .quorum
         .leader
-        .is_none_or(|b| parts::is_member(s.quorum.isr, b))
-        && request_leaders_in_isr(s.requests, s.next_leader_epoch)
+        .is_none_or(|b| parts::is_member(s.state.quorum.isr, b))
+        && request_leaders_in_isr(s.state.requests, s.state.next_leader_epoch)
 }
 
 // The first two sentences of S5, of one replica: at -1 it has no leader and an empty ISR, otherwise an epoch that is used and the
@@ -202,56 +215,52 @@ fn replica_meets_s5(requests: [Request; 16], next: u8, p: Replica, i: usize) -> 
 
 // S5: each replica's epoch is from -1 to next epoch minus 1; at -1 it has no leader and an empty ISR, otherwise the leader of its
 // epoch's request; one that is its own leader is in its own ISR; hw is at most its end.
-pub(crate) fn rule_5(s: State) -> bool
-    requires { Bounded s }
-    ensures { result ≡ rule5 (replica_count_of s.limits) (next_leader_epoch_of s) s.requests s.replicas }
+pub(crate) fn rule_5(s: SizedState) -> bool
+    ensures { result ≡ rule5 (replica_count_of s.state.limits) (next_leader_epoch_of s.state) s.state.requests s.state.replicas }
 {
-    s.replicas[..s.limits.replica_count as usize]
+    s.state.replicas[..s.state.limits.replica_count as usize]
         .iter()
         .enumerate()
-        .all(|(i, p)| replica_meets_s5(s.requests, s.next_leader_epoch, *p, i))
+        .all(|(i, p)| replica_meets_s5(s.state.requests, s.state.next_leader_epoch, *p, i))
 }
 
 // S6: each record's id is below next id, its epoch from 0 to next epoch minus 1.
-pub(crate) fn rule_6(s: State) -> bool
-    requires bounded { Bounded s }
-    requires logs_bounded { LogsBounded s }
-    ensures { result ≡ rule6 (replica_count_of s.limits) (next_record_id_of s) (next_leader_epoch_of s) s.replicas }
+pub(crate) fn rule_6(s: SizedState) -> bool
+    requires { LogsBounded s.state }
+    ensures { result ≡ rule6 (replica_count_of s.state.limits) (next_record_id_of s.state) (next_leader_epoch_of s.state) s.state.replicas }
 {
-    s.replicas[..s.limits.replica_count as usize]
+    s.state.replicas[..s.state.limits.replica_count as usize]
         .iter()
-        .all(|p| p.log_is_in_use(s.next_record_id, s.next_leader_epoch))
+        .all(|p| p.log_is_in_use(s.state.next_record_id, s.state.next_leader_epoch))
 }
 
 // S2, S5, S6 and S7 of the replicas, in one pass over them: a test of its own for each would copy the state each time. S7
 // (records with one id, in one log or two, stand at one offset and carry one epoch) goes by a table of the entries seen so far,
 // by id. Nothing past an end is read.
-fn replicas_meet(s: State) -> bool
-    requires bounded { Bounded s }
-    requires limits_bound { log_size_of s.limits ≤ 16 }
-    ensures { result ≡ every (pass_tests s) }
+fn replicas_meet(s: SizedState) -> bool
+    ensures { result ≡ every (pass_tests s.state) }
 {
-    let c = s.limits;
+    let c = s.state.limits;
     let mut seen = [0u16; 256];
     for i in 0..c.replica_count as usize {
-        let p = s.replicas[i];
+        let p = s.state.replicas[i];
         if !replica_in_range(c, p) {
             return false;
         }
-        if !replica_meets_s5(s.requests, s.next_leader_epoch, p, i) {
+        if !replica_meets_s5(s.state.requests, s.state.next_leader_epoch, p, i) {
             return false;
         }
-        if !p.log_meets_s6_s7(s.next_record_id, s.next_leader_epoch, &mut seen) {
+        if !p.log_meets_s6_s7(s.state.next_record_id, s.state.next_leader_epoch, &mut seen) {
             return false;
         }
     }
     true
 }
 
-// Whether the state meets S1 to S7.
-#[tactic(auto, using(crate::specs::RuleLaws::bounded_of, crate::specs::RuleLaws::sizes_of, crate::specs::OnePass::by_one_pass), unfolding(logic::specs::Tests::every))]
-pub(crate) fn meets_rules(s: State) -> bool
-    ensures { result ≡ rules s }
+// Whether the state meets S2 to S7 too.
+#[tactic(auto, using(crate::specs::OnePass::by_one_pass), unfolding(logic::specs::Tests::every))]
+pub(crate) fn meets_rules(s: SizedState) -> bool
+    ensures { result ≡ rules s.state }
 {
-    rule_1(s) && quorum_and_requests_in_range(s) && rule_3(s) && rule_4(s) && replicas_meet(s)
+    quorum_and_requests_in_range(s) && rule_3(s) && rule_4(s) && replicas_meet(s)
 }

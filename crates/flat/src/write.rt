@@ -6,7 +6,7 @@ ghost use Rattle.logic.specs.Stores.{Stored};
 ghost use Rattle.flat.specs.Flat.{flat_width, flat_leader, flat_request, flat_request_at, flat_replica, flat_replica_at, flat_header, flat};
 
 use cluster::{Request, State};
-use parts::bytes::put_bytes;
+use parts::bytes::{put_bytes, put_each};
 use replica::Replica;
 use replica::bytes::{put_head, put_log};
 
@@ -52,11 +52,7 @@ fn put_requests(out: &mut [u8], at: usize, s: State) -> usize
     requires { at + length (concat_below 16 (flat_request_at s)) ≤ length out.old }
     ensures { Stored out.old at (concat_below 16 (flat_request_at s)) out.new result }
 {
-    let mut pos = at;
-    for q in &s.requests {
-        pos = put_request(out, pos, *q);
-    }
-    pos
+    put_each(out, at, &s.requests, put_request)
 }
 
 // A replica with all 16 places of its log.
@@ -73,11 +69,7 @@ fn put_replicas(out: &mut [u8], at: usize, s: State) -> usize
     requires { at + length (concat_below 5 (flat_replica_at s)) ≤ length out.old }
     ensures { Stored out.old at (concat_below 5 (flat_replica_at s)) out.new result }
 {
-    let mut pos = at;
-    for p in &s.replicas {
-        pos = put_replica(out, pos, *p);
-    }
-    pos
+    put_each(out, at, &s.replicas, put_replica)
 }
 
 // The 226 bytes of a state. The caller, one of our own crates, shows that the buffer has room for them.

@@ -9,7 +9,7 @@ ghost use Rattle.images.specs.WriteLaws.{request_bytes_in};
 
 use crate::{HEADER_WIDTH, MARK_SECOND, REQUEST_WIDTH};
 use cluster::{Request, State, ValidState};
-use parts::bytes::put_bytes;
+use parts::bytes::{put_bytes, put_each};
 use parts::mark;
 use replica::Replica;
 use replica::bytes::{HEAD_WIDTH, LOG_RECORD_WIDTH, put_head, put_log};
@@ -28,11 +28,7 @@ fn put_requests(out: &mut [u8], at: usize, requests: [Request; 16], count: usize
     requires requests_in_bounds { at + length (concat_below count (request_bytes_in requests)) ≤ length out.old }
     ensures { Stored out.old at (concat_below count (request_bytes_in requests)) out.new result }
 {
-    let mut pos = at;
-    for q in &requests[..count] {
-        pos = put_request(out, pos, *q);
-    }
-    pos
+    put_each(out, at, &requests[..count], put_request)
 }
 
 // A replica: hw, epoch, leader, ISR, end, and its log.
@@ -52,11 +48,7 @@ fn put_replicas(out: &mut [u8], at: usize, valid: ValidState) -> usize
     ensures { Stored out.old at (replicas_bytes valid.state) out.new result }
 {
     let count = valid.state.limits.replica_count as usize;
-    let mut pos = at;
-    for p in &valid.state.replicas[..count] {
-        pos = put_replica(out, pos, *p);
-    }
-    pos
+    put_each(out, at, &valid.state.replicas[..count], put_replica)
 }
 
 // The first ten bytes.

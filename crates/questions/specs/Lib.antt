@@ -9,3 +9,4 @@ pub mod IsrLaws
 pub mod Doubt
 pub mod DoubtCode
 pub mod DoubtExample
+pub mod LoopLaws

@@ -13,6 +13,7 @@
 --   isr_named                                 what the table of all 32 renamed ISRs holds for an ISR
 --   request_looked_up p isrs requests e       request e with its ISR looked up so
 --   requests_looked_up                        the requests looked up are the renamed requests
+--   inverted_five                             the inverse of a renaming of five places is one
 --   inverse_start, inverse_turn, inverse_end  the loop that finds the old names: its start, a turn, and its end
 --   both_inward                               new names and old names are below five
 --   back_old, back_below                      what code reads of the inverse: the old names, below five
@@ -54,7 +55,7 @@ use Rattle.renamings.specs.Names.{new_name, holder, old_name, inverted, name_in,
 use Rattle.renamings.specs.Rename.{rename_leader, rename_isr, renamed_request_at, rename_quorum, rename_request, rename_replicas, rename_state, renamed, Renames, rename_refusal, rename}
 use Rattle.renamings.specs.Renaming.{to_below, from_below}
 use Rattle.renamings.specs.Rows.{five, rows_count, row_renaming, row_number, distinct_of, old_name_five, renaming_of}
-use Rattle.renamings.specs.Places.{renaming_five}
+use Rattle.renamings.specs.Places.{renaming_five, inverted_renaming}
 use Rattle.renamings.specs.RulesRenamed.{Fits}
 use Rattle.renamings.specs.Group.{rename_same}
 
@@ -326,3 +327,7 @@ rename_listed s p =
     ∙ listed_first all (state_refusal s) _
     (listed_within (accepted ∷ state_numbers) all (state_refusal s) refl (state_listed s))
     (listed_refuse all (not (is_renaming (replica_count_of s.limits) p)) not_renaming accepted refl refl)
+
+-- the inverse of a renaming of five places is one
+pub inverted_five : (p : List ℕ) → is_renaming 5 p ≡ true → is_renaming 5 (inverted p) ≡ true
+inverted_five p f = inverted_renaming 5 (omega arith) p f

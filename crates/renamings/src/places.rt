@@ -82,6 +82,7 @@ impl Renaming {
     }
 
     // The inverse: its places hold the old names of the replicas whose new names are 0 to 4.
+    #[tactic(auto, using(crate::specs::CodeLaws::inverted_five))]
     pub fn inverse(self) -> Renaming
         ensures { result.names ≡ inverted self.names }
     {

@@ -1,3 +1,4 @@
 pub mod Interface
 pub mod InterfaceLaws
 pub mod InterfaceTheorems
+pub mod ReplyLaws

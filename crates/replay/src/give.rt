@@ -6,13 +6,13 @@ ghost use Rattle.cluster.specs.Answer.{outcome_of};
 ghost use Rattle.questions.specs.Answer.{isr_answer_of, offer_answer_of};
 ghost use Rattle.runs.specs.Answer.{verdict_of};
 ghost use Rattle.flat.specs.Flat.{flat};
-ghost use Rattle.replay.specs.Interface.{Replies, gives, outcome_reply, isr_reply, offer_reply, verdict_bytes};
+ghost use Rattle.replay.specs.Interface.{Replies, gives, outcome_reply, isr_reply, offer_reply, number_bytes, verdict_bytes};
 ghost use Rattle.replay.specs.InterfaceLaws.{bytes_of_numbers};
 
 use cluster::{Refused, State};
 use flat::WIDTH;
 use flat::write::put_state;
-use parts::bytes::put_bytes;
+use parts::bytes::{put_bytes, put_each};
 use parts::refusal::Refusal;
 use questions::{Difference, Operands};
 use runs::Verdict;
@@ -88,16 +88,20 @@ pub(crate) fn give_offer(answer: Result<Operands, Refusal>, out: &mut [u8]) -> R
     }
 }
 
+// A number: its four low bytes, the lowest first.
+fn put_number(out: &mut [u8], at: usize, n: usize) -> usize
+    requires { at + length (number_bytes n) ≤ length out.old }
+    ensures { Stored out.old at (number_bytes n) out.new result }
+{
+    put_bytes(out, at, &n.to_le_bytes()[..NUMBER_WIDTH])
+}
+
 // Numbers, each as its four low bytes, the lowest first. The caller shows that the buffer has room for them.
 fn put_numbers(out: &mut [u8], at: usize, numbers: &[usize]) -> usize
     requires { at + 4 * length numbers.now ≤ length out.old }
     ensures { Stored out.old at (bytes_of_numbers numbers.now) out.new result }
 {
-    let mut pos = at;
-    for n in numbers {
-        pos = put_bytes(out, pos, &n.to_le_bytes()[..NUMBER_WIDTH]);
-    }
-    pos
+    put_each(out, at, numbers, put_number)
 }
 
 // A verdict: its six numbers and its state. It has no number of its own that refuses.

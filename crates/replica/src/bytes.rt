@@ -6,7 +6,7 @@ ghost use Rattle.logic.specs.Stores.{Stored};
 ghost use Rattle.replica.specs.ReplicaBytes.{log_record_width, record_bytes, record_bytes_at, replica_head_by, record_of};
 
 use crate::{Record, Replica};
-use parts::bytes::put_bytes;
+use parts::bytes::{put_bytes, put_each};
 
 // How many bytes a replica without its log, and a record have.
 pub const HEAD_WIDTH: usize = 5;
@@ -31,11 +31,7 @@ pub fn put_log(out: &mut [u8], at: usize, p: Replica, count: usize) -> usize
     requires p_in_bounds { at + length (concat_below count (record_bytes_at p)) ≤ length out.old }
     ensures { Stored out.old at (concat_below count (record_bytes_at p)) out.new result }
 {
-    let mut pos = at;
-    for x in 0..count {
-        pos = put_record(&mut out[..], pos, p.log[x]);
-    }
-    pos
+    put_each(out, at, &p.log[..count], put_record)
 }
 
 // A replica up to its log: hw, epoch, leader, ISR, end. The leader comes as the byte that stands for it. The caller shows that

@@ -11,6 +11,7 @@
 --   then_answers                         and where code goes on by `then_with`
 --   then_both                            where two answers together are equal, each is
 --   decision_none .. decision_passed     the turns of a loop that stops at the first answer that decides
+--   by_turns, by_parts                   these laws together, as code goes by them
 --   numbers_less .. equal_numbers        what compare_numbers says
 --   Begin xs ys o                        lists that begin with xs and ys compare as o, or where o is equal as what is behind them
 --   begin_whole                          xs and ys themselves compare as o
@@ -161,6 +162,11 @@ decision_found n i c l h e k t = e ∙ decision_here n i c l h (ap decides (sym 
 pub decision_passed : (i : ℕ) (c : ℕ → Comparison) {here : Comparison} {d : Bool} → decision_below i c ≡ Equal
     → here ≡ c i → d ≡ decides here → d ≡ false → decision_below (i + 1) c ≡ Equal
 decision_passed i c h e k t = decision_more i c h (ap decides (sym e) ∙ sym k ∙ t)
+
+-- what a loop goes by that stops at the first answer that decides, and what code goes by that asks one after the other
+pub ruleset by_turns = (ne_decides, decision_none, decision_found, decision_passed, decision_end)
+
+pub ruleset by_parts = (ne_decides, first_stands, next_stands)
 
 -- ---- two numbers
 pub numbers_less : (x y : ℕ) → x < y → compare_numbers x y ≡ Less

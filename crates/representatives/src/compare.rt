@@ -41,7 +41,7 @@ fn compare_records(r: Record, t: Record) -> Ordering
 }
 
 // Logs, up to the first one's end. The caller shows that it is in the array.
-#[tactic(auto, using(crate::specs::Comparison::ne_decides, crate::specs::Comparison::decision_none, crate::specs::Comparison::decision_found, crate::specs::Comparison::decision_passed, crate::specs::Comparison::decision_end), unfolding(crate::specs::Fields::compare_logs))]
+#[tactic(auto, using(crate::specs::Comparison::by_turns), unfolding(crate::specs::Fields::compare_logs))]
 fn compare_logs(a: Replica, b: Replica) -> Ordering
     requires { a.end ≤ 16 }
     ensures { result ≡ compare_logs a b }
@@ -95,7 +95,7 @@ fn compare_heads(p: Renaming, q: Renaming, a: Replica, b: Replica) -> Ordering
 
 // Replicas; `same` says that they are one replica, whose log need not be compared with itself. The caller shows that it is so, and
 // that the first one's end is in its array.
-#[tactic(auto, using(crate::specs::Comparison::ne_decides, crate::specs::Comparison::first_stands, crate::specs::Comparison::next_stands, crate::specs::Fields::log_same), unfolding(crate::specs::Fields::compare_replicas))]
+#[tactic(auto, using(crate::specs::Comparison::by_parts, crate::specs::Fields::log_same), unfolding(crate::specs::Fields::compare_replicas))]
 fn compare_replicas(p: Renaming, q: Renaming, a: Replica, b: Replica, same: bool) -> Ordering
     requires end_bound { a.end ≤ 16 }
     requires b_value { same ≡ true → b ≡ a }
@@ -112,7 +112,7 @@ fn compare_replicas(p: Renaming, q: Renaming, a: Replica, b: Replica, same: bool
 }
 
 // The replicas, in the order of their new names. The caller shows that p is a renaming of the state's replicas.
-#[tactic(auto, using(crate::specs::Comparison::ne_decides, crate::specs::Comparison::decision_none, crate::specs::Comparison::decision_found, crate::specs::Comparison::decision_passed, crate::specs::Comparison::decision_end, renamings::specs::CodeLaws::back_old, crate::specs::CodeLaws::old_short), unfolding(crate::specs::Fields::compare_all_replicas))]
+#[tactic(auto, using(crate::specs::Comparison::by_turns, renamings::specs::CodeLaws::back_old, crate::specs::CodeLaws::old_short), unfolding(crate::specs::Fields::compare_all_replicas))]
 fn compare_all_replicas(s: ValidState, p: Renaming, q: Renaming) -> Ordering
     requires { Renames s.state p.names }
     ensures { result ≡ compare_all_replicas s.state p.names q.names }
@@ -131,7 +131,7 @@ fn compare_all_replicas(s: ValidState, p: Renaming, q: Renaming) -> Ordering
 }
 
 // The requests, each by the names of p and by those of q.
-#[tactic(auto, using(crate::specs::Comparison::ne_decides, crate::specs::Comparison::decision_none, crate::specs::Comparison::decision_found, crate::specs::Comparison::decision_passed, crate::specs::Comparison::decision_end), unfolding(crate::specs::Fields::compare_all_requests))]
+#[tactic(auto, using(crate::specs::Comparison::by_turns), unfolding(crate::specs::Fields::compare_all_requests))]
 fn compare_all_requests(s: ValidState, p: Renaming, q: Renaming) -> Ordering
     ensures { result ≡ compare_all_requests s.state p.names q.names }
 {
@@ -147,7 +147,7 @@ fn compare_all_requests(s: ValidState, p: Renaming, q: Renaming) -> Ordering
 
 // The image of the state under p with that under q, by the fields: the quorum, the requests, the replicas. All else is the same in
 // both. The caller shows that p and q are renamings of the state's replicas.
-#[tactic(auto, using(crate::specs::Comparison::ne_decides, crate::specs::Comparison::first_stands, crate::specs::Comparison::next_stands, crate::specs::Fields::compare_images), unfolding(crate::specs::Fields::compare_under))]
+#[tactic(auto, using(crate::specs::Comparison::by_parts, crate::specs::Fields::compare_images), unfolding(crate::specs::Fields::compare_under))]
 pub(crate) fn compare_under(s: ValidState, p: Renaming, q: Renaming) -> Ordering
     requires renames { Renames s.state p.names }
     requires renames_2 { Renames s.state q.names }

@@ -102,17 +102,19 @@ fn least_renaming(s: ValidState) -> Renaming
 
 // The representative of a state, with zeros in its unused room; refused by the first rule that the state breaks, the state as given.
 // Places that are a renaming of no replicas leave every name, and so the tidy state, which is then not renamed.
-#[tactic(auto, using(crate::specs::CodeLaws::represent_met, renamings::specs::CodeLaws::leaves_state, renamings::specs::TidyRenamed::met_tidy, renamings::specs::TidyRenamed::fits))]
+#[tactic(auto, using(crate::specs::CodeLaws::represent_broken, crate::specs::CodeLaws::represent_met, renamings::specs::CodeLaws::leaves_state, renamings::specs::TidyRenamed::met_tidy, renamings::specs::TidyRenamed::fits))]
 pub fn representative(s: State) -> Result<State, Refused>
     ensures { outcome_of result ≡ represent s }
 {
-    let valid = s
-        .validate()
-        .map_err(|refusal| Refused { refusal, state: s })?;
-    let least = least_renaming(valid);
-    let tidy = valid.tidy().state;
-    if places::is_renaming(0, least.names) {
-        return Ok(tidy);
+    match s.validate() {
+        Ok(valid) => {
+            let least = least_renaming(valid);
+            let tidy = s.tidy();
+            if places::is_renaming(0, least.names) {
+                return Ok(tidy);
+            }
+            Ok(state::rename_state(tidy, least))
+        }
+        Err(refusal) => Err(Refused { refusal, state: s }),
     }
-    Ok(state::rename_state(tidy, least))
 }

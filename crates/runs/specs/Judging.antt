@@ -164,6 +164,24 @@ known_after tally step =
       exposed = omega arith;
     }
 
+-- a failure that is known stays; where none is, the state decides
+module _ (known : ℕ) (holds : Bool) (count : ℕ) where
+  pub failed_before : (known ≡ 0 → ⊥) → known ≡ failed_at known holds count
+  unfolding failed_at
+  failed_before h = go known h
+    where
+      go : (k : ℕ) → (k ≡ 0 → ⊥) → k ≡ failed_at k holds count
+      go zero f = absurd (f refl)
+      go (suc k) f = refl
+
+  pub failed_never : known ≡ 0 → holds ≡ true → 0 ≡ failed_at known holds count
+  unfolding failed_at
+  failed_never h e = rw (h, e)
+
+  pub failed_now : known ≡ 0 → holds ≡ false → count ≡ failed_at known holds count
+  unfolding failed_at
+  failed_now h e = rw (h, e)
+
 -- ---- the verdict from here: of what is counted so far, the state, the byte where the next run record starts, and what follows
 -- where the run stops
 abbrev pub verdict_at : (tally : Tally) (number at : ℕ) (last : State) → Verdict

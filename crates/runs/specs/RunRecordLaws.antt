@@ -1,5 +1,5 @@
 -- What a run record answers, by its length and its mark, and what it keeps of the state before it. Assumes nothing.
-use Rattle.std.specs.Prelude.{ℕ, ◌≤◌, ◌<◌, ◌≡◌, refl, true, List, ◌↔◌, length}
+use Rattle.std.specs.Prelude.{ℕ, ◌≤◌, ◌<◌, ◌≡◌, refl, true, false, List, ◌↔◌, length}
 use Rattle.std.proofs.Math.Path.{sym, ap, subst}
 use Rattle.std.proofs.Common.{ap₂, ◌∙◌, arith}
 use Rattle.std.proofs.Math.Bool.{not}
@@ -19,6 +19,10 @@ use Rattle.runs.specs.Run.{run_record_width, action_mark, mark_refusal, run_reco
 
 -- ---- the number of a run record's mark, and that of its length and its mark
 module _ (mark : ℕ) (bytes : List ℕ) where
+  pub mark_wrong : marked mark bytes ≡ false → wrong_mark ≡ mark_refusal mark bytes
+  unfolding mark_refusal
+  mark_wrong m = refuse_yes _ wrong_mark accepted (ap not m)
+
   pub mark_right : marked mark bytes ≡ true → accepted ≡ mark_refusal mark bytes
   unfolding mark_refusal
   mark_right m = refuse_no _ wrong_mark accepted (ap not m)

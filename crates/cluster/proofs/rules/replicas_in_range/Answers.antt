@@ -10,8 +10,8 @@ use Rattle.cluster.proofs.Owned.{shaped_of}
 use Rattle.cluster.proofs.rules.replicas_in_range.Goals as goal
 
 pub returns : goal.returns
-returns c = let s = c.args.s in
+returns c = let s = c.args.s.state in
     let n = replica_count_of s.limits in
     let test = replica_in_range s.limits in
     all_from_yields_List test _ _ c.all.result c.all.ensures.ran (YieldsList-from_slice (take n s.replicas) cc) (λ x b q k. search (rules, tests))
-    ∙ all_taken test no_replica n s.replicas (omega (arith, c.requires.replicas, (shaped_of s _ c.well_formed.0).replicas))
+    ∙ all_taken test no_replica n s.replicas (omega (arith, c.args.s.bounded.replicas, (shaped_of s _ c.well_formed.0.1.1.0).replicas))

@@ -11,7 +11,7 @@ use Rattle.cluster.proofs.rules.replicas_meet.Given as goal
 
 -- the first i replicas meet S2, S5 and S6, and the pass has gone through their records
 abbrev pub invariant-loop-i : goal.invariant-loop-i
-invariant-loop-i l = (all_below l.i (replica_in_range_at l.s.limits l.s.replicas) ≡ true)
-    × (all_below l.i (replica_meets_s5_at (next_leader_epoch_of l.s) l.s.requests l.s.replicas) ≡ true)
-    × (all_below l.i (log_in_use_at (next_record_id_of l.s) (next_leader_epoch_of l.s) l.s.replicas) ≡ true)
-    × Passed (replicate 256 0) (concat_below l.i (entries_at l.s.replicas)) true l.seen
+invariant-loop-i l = (all_below l.i (replica_in_range_at l.s.state.limits l.s.state.replicas) ≡ true)
+    × (all_below l.i (replica_meets_s5_at (next_leader_epoch_of l.s.state) l.s.state.requests l.s.state.replicas) ≡ true)
+    × (all_below l.i (log_in_use_at (next_record_id_of l.s.state) (next_leader_epoch_of l.s.state) l.s.state.replicas) ≡ true)
+    × Passed (replicate 256 0) (concat_below l.i (entries_at l.s.state.replicas)) true l.seen

@@ -13,8 +13,8 @@ use Rattle.cluster.proofs.rules.rule_5.Goals as goal
 
 pub returns : goal.returns
 unfolding rule5
-returns c = let s = c.args.s in
+returns c = let s = c.args.s.state in
     let n = replica_count_of s.limits in
     let test : ℕ → Replica → Bool = λ i p. replica_meets_s5 (next_leader_epoch_of s) s.requests p i in
     all_from_yields_List (λ p. test p.0 p.1) _ _ c.all.result c.all.ensures.ran (YieldsList-from_enumerate (YieldsList-from_slice (take n s.replicas) cc) cc) (λ x b q k. search (rules, tests))
-    ∙ all_counted test no_replica n s.replicas (omega (arith, c.requires.replicas, (shaped_of s _ c.well_formed.0).replicas))
+    ∙ all_counted test no_replica n s.replicas (omega (arith, c.args.s.bounded.replicas, (shaped_of s _ c.well_formed.0.1.1.0).replicas))
