@@ -59,7 +59,7 @@ module _ (d : Doubt) (property : Property) (s : State) (r : ℕ) where
   offsets_of m = cond (member d.agreeing m) 0 (cond (member (isr_by_property property (replica_at s r).isr s.quorum.isr) m) (replica_at s r).hw 0)
 
   -- a member is looked at: r is in doubt and presumes, and m is a replica
-  member_below : (m : ℕ) → m < members_of
+  pub member_below : (m : ℕ) → m < members_of
       → (member d.leaders r ≡ true) × (names (replica_at s r).leader r ≡ true) × (m < replica_count_of s.limits)
   member_below m l =
       let led = below_cond (member d.leaders r) _ m l in
