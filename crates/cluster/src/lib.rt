@@ -203,18 +203,17 @@ impl State {
         tidy::tidy_replicas(tidy::tidy_requests(self))
     }
 
-    // The state as one that meets the rules; refused by the first state rule that it breaks, S1 to S7. Where it breaks some and S1 to S6
+    // Whether the state meets the rules; refused by the first state rule that it breaks, S1 to S7. Where it breaks some and S1 to S6
     // hold, it is S7.
     #[tactic(auto, using(crate::specs::RuleLaws::bounded_of, crate::specs::RuleLaws::logs_bounded_of, crate::specs::RuleLaws::met_refusal, crate::specs::RuleLaws::only_seventh), unfolding(crate::specs::Rules::state_refusal, logic::specs::Refuse::refuse_unless, logic::specs::Refuse::refuse))]
-    pub fn validate(self) -> Result<ValidState, Refusal>
-        ensures number { answer_number result ≡ state_refusal self }
-        ensures state { IfOk result (λ valid. valid.state ≡ self) }
+    fn check_rules(self) -> Result<(), Refusal>
+        ensures { answer_number result ≡ state_refusal self }
     {
         let Some(sized) = SizedState::new(self) else {
             return Err(Refusal::BreaksS1);
         };
         if rules::meets_rules(sized) {
-            return Ok(ValidState::new(self));
+            return Ok(());
         }
         if !rules::rule_2(sized) {
             return Err(Refusal::BreaksS2);
@@ -232,5 +231,17 @@ impl State {
             return Err(Refusal::BreaksS6);
         }
         Err(Refusal::BreaksS7)
+    }
+
+    // The state as one that meets the rules; refused by the first state rule that it breaks. The test answers no state, so that none is
+    // copied out of it.
+    #[inline(always)]
+    #[tactic(auto, using(crate::specs::RuleLaws::refusal_met))]
+    pub fn validate(self) -> Result<ValidState, Refusal>
+        ensures number { answer_number result ≡ state_refusal self }
+        ensures state { IfOk result (λ valid. valid.state ≡ self) }
+    {
+        self.check_rules()?;
+        Ok(ValidState::new(self))
     }
 }

@@ -37,9 +37,10 @@ fn tidy_replica(p: Replica, i: usize, count: u8) -> Replica
 pub(crate) fn tidy_requests(s: State) -> State
     ensures { result ≡ with_requests s (table 16 (tidy_request_at s)) }
 {
-    let mut t = s;
-    t.requests = array::from_fn(|e| tidy_request(s.requests[e], e, s.next_leader_epoch));
-    t
+    State {
+        requests: array::from_fn(|e| tidy_request(s.requests[e], e, s.next_leader_epoch)),
+        ..s
+    }
 }
 
 // The state with zeros past the end of each log, and in the place of each replica past the count.
@@ -47,6 +48,9 @@ pub(crate) fn tidy_replicas(s: State) -> State
     ensures { result ≡ with_replicas s (table 5 (tidy_replica_at s)) }
 {
     let mut t = s;
-    t.replicas = array::from_fn(|i| tidy_replica(s.replicas[i], i, s.limits.replica_count));
+    // Each replica is put at its place: an array of them that is made first is copied once more, and takes its own stack.
+    for i in 0..5 {
+        t.replicas[i] = tidy_replica(s.replicas[i], i, s.limits.replica_count);
+    }
     t
 }

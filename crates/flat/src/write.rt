@@ -19,9 +19,9 @@ fn leader_byte(leader: Option<u8>) -> u8
 }
 
 // The first nine bytes.
-fn put_header(out: &mut [u8], at: usize, s: State) -> usize
-    requires { at + length (flat_header s) ≤ length out.old }
-    ensures { Stored out.old at (flat_header s) out.new result }
+fn put_header(out: &mut [u8], at: usize, s: &State) -> usize
+    requires { at + length (flat_header s.now) ≤ length out.old }
+    ensures { Stored out.old at (flat_header s.now) out.new result }
 {
     let limits = s.limits;
     let quorum = s.quorum;
@@ -48,9 +48,9 @@ fn put_request(out: &mut [u8], at: usize, q: Request) -> usize
 }
 
 // The 16 requests, sent or not.
-fn put_requests(out: &mut [u8], at: usize, s: State) -> usize
-    requires { at + length (concat_below 16 (flat_request_at s)) ≤ length out.old }
-    ensures { Stored out.old at (concat_below 16 (flat_request_at s)) out.new result }
+fn put_requests(out: &mut [u8], at: usize, s: &State) -> usize
+    requires { at + length (concat_below 16 (flat_request_at s.now)) ≤ length out.old }
+    ensures { Stored out.old at (concat_below 16 (flat_request_at s.now)) out.new result }
 {
     put_each(out, at, &s.requests, put_request)
 }
@@ -65,18 +65,18 @@ fn put_replica(out: &mut [u8], at: usize, p: Replica) -> usize
 }
 
 // The 5 replicas, used or not.
-fn put_replicas(out: &mut [u8], at: usize, s: State) -> usize
-    requires { at + length (concat_below 5 (flat_replica_at s)) ≤ length out.old }
-    ensures { Stored out.old at (concat_below 5 (flat_replica_at s)) out.new result }
+fn put_replicas(out: &mut [u8], at: usize, s: &State) -> usize
+    requires { at + length (concat_below 5 (flat_replica_at s.now)) ≤ length out.old }
+    ensures { Stored out.old at (concat_below 5 (flat_replica_at s.now)) out.new result }
 {
     put_each(out, at, &s.replicas, put_replica)
 }
 
 // The 226 bytes of a state. The caller, one of our own crates, shows that the buffer has room for them.
 #[tactic(auto, using(logic::specs::Stores::stored_length, crate::specs::FlatLaws::requests_width, crate::specs::FlatLaws::replicas_width))]
-pub fn put_state(out: &mut [u8], at: usize, s: State) -> usize
+pub fn put_state(out: &mut [u8], at: usize, s: &State) -> usize
     requires { at + flat_width ≤ length out.old }
-    ensures { Stored out.old at (flat s) out.new result }
+    ensures { Stored out.old at (flat s.now) out.new result }
 {
     let requests = put_header(out, at, s);
     let replicas = put_requests(out, requests, s);

@@ -7,7 +7,7 @@
 --   bool-byte                         whether a property holds, as a byte
 use Rattle.std.specs.Prelude.{ℕ, ◌≤◌, ◌<◌, ◌≡◌, refl, Bool, true, false, List, [], ◌∷◌, length, get_or}
 use Rattle.std.proofs.Math.Path.{sym, ap}
-use Rattle.std.proofs.Common.{◌∙◌, arith, lt-ltb, le-ltb, ne_eqb}
+use Rattle.std.proofs.Common.{◌∙◌, lt-ltb, le-ltb, ne_eqb}
 use mir.Val.{bool_byte}
 use Rattle.logic.specs.Refuse.{first_yes, first_no, by_accepted}
 use Rattle.logic.specs.Stores.{Stored, stored_front}

@@ -41,8 +41,8 @@ fn give_bytes(bytes: &[u8], out: &mut [u8]) -> Result<(), Refusal>
 }
 
 // A state.
-pub(crate) fn give_state(s: State, out: &mut [u8]) -> Result<(), Refusal>
-    ensures { Replies (gives (flat s)) out.old (answer_number result) out.new }
+pub(crate) fn give_state(s: &State, out: &mut [u8]) -> Result<(), Refusal>
+    ensures { Replies (gives (flat s.now)) out.old (answer_number result) out.new }
 {
     if out.len() < WIDTH {
         return Err(Refusal::BufferShort);
@@ -53,8 +53,8 @@ pub(crate) fn give_state(s: State, out: &mut [u8]) -> Result<(), Refusal>
 
 // The state of an answer, where that is not refused.
 #[tactic(auto, unfolding(crate::specs::Interface::state_reply, logic::specs::Refuse::by_refusal))]
-pub(crate) fn give_outcome(answer: Result<State, Refused>, out: &mut [u8]) -> Result<(), Refusal>
-    ensures { Replies (outcome_reply (outcome_of answer)) out.old (answer_number result) out.new }
+pub(crate) fn give_outcome(answer: &Result<State, Refused>, out: &mut [u8]) -> Result<(), Refusal>
+    ensures { Replies (outcome_reply (outcome_of answer.now)) out.old (answer_number result) out.new }
 {
     match answer {
         Ok(s) => give_state(s, out),
@@ -105,8 +105,8 @@ fn put_numbers(out: &mut [u8], at: usize, numbers: &[usize]) -> usize
 }
 
 // A verdict: its six numbers and its state. It has no number of its own that refuses.
-pub(crate) fn give_verdict(v: Verdict, out: &mut [u8]) -> Result<(), Refusal>
-    ensures { Replies (gives (verdict_bytes (verdict_of v))) out.old (answer_number result) out.new }
+pub(crate) fn give_verdict(v: &Verdict, out: &mut [u8]) -> Result<(), Refusal>
+    ensures { Replies (gives (verdict_bytes (verdict_of v.now))) out.old (answer_number result) out.new }
 {
     if out.len() < VERDICT_WIDTH {
         return Err(Refusal::BufferShort);
@@ -120,6 +120,6 @@ pub(crate) fn give_verdict(v: Verdict, out: &mut [u8]) -> Result<(), Refusal>
         v.tally.exposed as usize,
     ];
     let state = put_numbers(out, 0, &numbers);
-    put_state(out, state, v.state);
+    put_state(out, state, &v.state);
     Ok(())
 }

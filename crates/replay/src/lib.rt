@@ -13,6 +13,7 @@ ghost use Rattle.std.specs.Prelude.{◌≡◌};
 ghost use Rattle.replay.specs.Interface.{Replies, number_and_length, number_and_member, member_named_by, out_after, replay_fresh, replay_act, replay_weak, replay_strong, replay_offer, replay_write_image, replay_read_image, replay_rename, replay_representative, replay_judge};
 
 use cluster::{Action, Limits, State};
+use flat::read::state_of;
 use give::number;
 use questions::Property;
 
@@ -27,7 +28,7 @@ pub fn replay_fresh(r: u8, l: u8, m: u8, x: u8, out: &mut [u8]) -> u8
         max_records: m,
         max_leader_epoch: x,
     };
-    number(give::give_outcome(State::fresh(limits), out))
+    number(give::give_outcome(&State::fresh(limits), out))
 }
 
 // The state after an action. Returns the number and 256 times the member that the answer names, which is 0 beside any other number
@@ -35,12 +36,11 @@ pub fn replay_fresh(r: u8, l: u8, m: u8, x: u8, out: &mut [u8]) -> u8
 pub fn replay_act(state: &[u8], kind: u8, a: u8, b: u8, e: u8, out: &mut [u8]) -> u32
     ensures { (result ≡ number_and_member (replay_act state.now kind a b e) (member_named_by state.now kind a b e) out.old) × (out.new ≡ out_after (replay_act state.now kind a b e) out.old) }
 {
-    let s = match take::state_of_bytes(state) {
-        Ok(s) => s,
-        Err(refusal) => return refusal.number() as u32,
-    };
-    match s.act(Action { kind, a, b, e }) {
-        Ok(next) => number(give::give_state(next, out)) as u32,
+    if let Err(refusal) = take::check_width(state) {
+        return refusal.number() as u32;
+    }
+    match state_of(state).act(Action { kind, a, b, e }) {
+        Ok(next) => number(give::give_state(&next, out)) as u32,
         Err(r) => (r.refusal.number() as u32) + 256 * (r.member.unwrap_or(0) as u32),
     }
 }
@@ -72,11 +72,10 @@ pub fn replay_offer(state: &[u8], kind: u8, out: &mut [u8]) -> u8
 pub fn replay_write_image(state: &[u8], out: &mut [u8]) -> u32
     ensures { (result ≡ number_and_length (replay_write_image state.now) out.old) × (out.new ≡ out_after (replay_write_image state.now) out.old) }
 {
-    let s = match take::state_of_bytes(state) {
-        Ok(s) => s,
-        Err(refusal) => return refusal.number() as u32,
-    };
-    match images::write_image(s, out) {
+    if let Err(refusal) = take::check_width(state) {
+        return refusal.number() as u32;
+    }
+    match images::write_image(state_of(state), out) {
         Ok(length) => 256 * (length as u32),
         Err(refusal) => refusal.number() as u32,
     }
@@ -108,5 +107,5 @@ pub fn replay_representative(state: &[u8], out: &mut [u8]) -> u8
 pub fn replay_judge(run: &[u8], out: &mut [u8]) -> u8
     ensures { Replies (replay_judge run.now) out.old result out.new }
 {
-    number(give::give_verdict(runs::judge(run), out))
+    number(give::give_verdict(&runs::judge(run), out))
 }

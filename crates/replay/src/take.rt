@@ -1,25 +1,24 @@
 // What comes as bytes: a flat state, and the places of a renaming.
-ghost use Rattle.std.specs.Prelude.{◌≡◌, IfOk};
+ghost use Rattle.std.specs.Prelude.{◌≡◌, length, IsOk};
 ghost use Rattle.parts.specs.Refusal.{answer_number};
 ghost use Rattle.cluster.specs.Answer.{outcome_of};
-ghost use Rattle.flat.specs.Flat.{state_of_flat};
+ghost use Rattle.flat.specs.Flat.{flat_width};
 ghost use Rattle.replay.specs.Interface.{width_refusal, rename_by};
 
 use cluster::{Refused, State};
 use flat::WIDTH;
-use flat::read::state_of;
 use parts::refusal::Refusal;
 use std::cmp::Ordering;
 
-// The state of these bytes; refused where they are fewer than a flat state has, or more.
+// Whether the bytes are as many as a flat state has; refused where they are fewer, or more.
 #[tactic(auto, unfolding(crate::specs::Interface::width_refusal, logic::specs::Refuse::refuse))]
-pub(crate) fn state_of_bytes(bytes: &[u8]) -> Result<State, Refusal>
+pub(crate) fn check_width(bytes: &[u8]) -> Result<(), Refusal>
     ensures number { answer_number result ≡ width_refusal bytes.now }
-    ensures state { IfOk result (λ s. s ≡ state_of_flat bytes.now) }
+    ensures width { IsOk result → length bytes.now ≡ flat_width }
 {
     match bytes.len().cmp(&WIDTH) {
         Ordering::Less => Err(Refusal::TooShort),
-        Ordering::Equal => Ok(state_of(bytes)),
+        Ordering::Equal => Ok(()),
         Ordering::Greater => Err(Refusal::LeftOver),
     }
 }

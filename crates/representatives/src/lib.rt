@@ -109,11 +109,11 @@ pub fn representative(s: State) -> Result<State, Refused>
     match s.validate() {
         Ok(valid) => {
             let least = least_renaming(valid);
-            let tidy = s.tidy();
-            if places::is_renaming(0, least.names) {
-                return Ok(tidy);
+            let mut least_state = s.tidy();
+            if !places::is_renaming(0, least.names) {
+                least_state = state::rename_state(least_state, least);
             }
-            Ok(state::rename_state(tidy, least))
+            Ok(least_state)
         }
         Err(refusal) => Err(Refused { refusal, state: s }),
     }

@@ -17,18 +17,16 @@ returns-in-Err c = let x = c.args in
       (on_state_refused x.state.now (λ (s : State). action_reply (act s (action_of x.kind x.a x.b x.e))) _ _ h (refusal_not_zero _)).1,
     )
 
-pub returns-in-Ok-act : goal.returns-in-Ok-act
+pub returns-in-Ok : goal.returns-in-Ok
 unfolding state_reply by_refusal
-returns-in-Ok-act c = let x = c.args in
-    let taken = c.in-Ok.ensures in
+returns-in-Ok c = let x = c.args in
     let m =
-    member_replies x.state.now x.kind x.a x.b x.e _ _ _ _ (sym taken.number) (rw taken.state at c.in-Ok-act.ensures) c.give_state.ensures in
-    (omega (arith, m.0, c.number-in-Ok-act.ensures), m.1)
+    member_replies x.state.now x.kind x.a x.b x.e _ _ _ _ (sym c.in_default.ensures.number) (rw c.state_of.ensures at c.in-Ok.ensures.answer) c.give_state.ensures in
+    (omega (arith, m.0, c.number-in-Ok.ensures), m.1)
 
 pub returns-in-Err-act : goal.returns-in-Err-act
 unfolding state_reply
 returns-in-Err-act c = let x = c.args in
-    let taken = c.in-Ok.ensures in
     let member : c.unwrap_or.result ≡ member_number c.in-Err-act.r.member = search rules in
     rw (c.number-in-Err-act.ensures, member)
-    (member_replies x.state.now x.kind x.a x.b x.e _ _ _ _ (sym taken.number) (rw taken.state at c.in-Err-act.ensures) (replies_err _ _ _))
+    (member_replies x.state.now x.kind x.a x.b x.e _ _ _ _ (sym c.in_default.ensures.number) (rw c.state_of.ensures at c.in-Err-act.ensures.answer) (replies_err _ _ _))

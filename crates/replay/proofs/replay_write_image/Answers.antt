@@ -10,26 +10,24 @@ unfolding replay_write_image
 returns-in-Err c = let h = c.in-Err.ensures.number in
     rw c.number.ensures (on_state_alone _ image_reply _ _ h (refusal_not_zero _), (on_state_refused _ image_reply _ _ h (refusal_not_zero _)).1)
 
-pub overflow_cast-result-in-Ok-write_image : goal.overflow_cast-result-in-Ok-write_image
-overflow_cast-result-in-Ok-write_image c =
-    let i = image_replies c.in-Ok.s c.args.out.now in
-    omega (arith, i.length_at_most, ap (λ (v : Written). v.length) c.in-Ok-write_image.ensures.0)
+pub overflow_cast-result-in-Ok : goal.overflow_cast-result-in-Ok
+overflow_cast-result-in-Ok c =
+    let i = image_replies c.state_of.result c.args.out.now in
+    omega (arith, i.length_at_most, ap (λ (v : Written). v.length) c.in-Ok.ensures.0)
 
 pub overflow_mul-result : goal.overflow_mul-result
 overflow_mul-result c =
-    let i = image_replies c.in-Ok.s c.args.out.now in
-    omega (arith, i.length_at_most, ap (λ (v : Written). v.length) c.in-Ok-write_image.ensures.0)
+    let i = image_replies c.state_of.result c.args.out.now in
+    omega (arith, i.length_at_most, ap (λ (v : Written). v.length) c.in-Ok.ensures.0)
 
-pub returns-in-Ok-write_image : goal.returns-in-Ok-write_image
-returns-in-Ok-write_image c =
-    let taken = c.in-Ok.ensures in
-    let w = c.in-Ok-write_image.ensures in
-    let m = written_replies _ _ _ _ _ taken.number taken.state w.0 w.1 in
+pub returns-in-Ok : goal.returns-in-Ok
+returns-in-Ok c =
+    let w = c.in-Ok.ensures in
+    let m = written_replies _ _ _ _ _ c.in_default.ensures.number c.state_of.ensures w.0 w.1 in
     (omega (arith, m.0), m.1)
 
 pub returns-in-Err-write_image : goal.returns-in-Err-write_image
 returns-in-Err-write_image c =
-    let taken = c.in-Ok.ensures in
     let w = c.in-Err-write_image.ensures in
-    let m = written_replies _ _ _ _ _ taken.number taken.state w.0 w.1 in
+    let m = written_replies _ _ _ _ _ c.in_default.ensures.number c.state_of.ensures w.0 w.1 in
     (omega (arith, m.0, c.number-in-Err-write_image.ensures), m.1)

@@ -8,7 +8,7 @@ use Rattle.replay.specs.InterfaceLaws.{replies_short, replies_given, verdict-wid
 use Rattle.replay.proofs.give.give_verdict.Goals as goal
 
 pub returns-then-out-lt-VERDICT_WIDTH : goal.returns-then-out-lt-VERDICT_WIDTH
-returns-then-out-lt-VERDICT_WIDTH c = replies_short _ _ (omega (arith, c.if-out-lt-VERDICT_WIDTH.true, verdict-width (verdict_of c.args.v)))
+returns-then-out-lt-VERDICT_WIDTH c = replies_short _ _ (omega (arith, c.if-out-lt-VERDICT_WIDTH.true, verdict-width (verdict_of c.args.v.now)))
 
 pub put_state-requires : goal.put_state-requires
 unfolding concat_below number_bytes
@@ -18,7 +18,7 @@ put_state-requires c = let w = c.put_numbers-state.ensures in
 pub returns : goal.returns
 unfolding verdict_bytes concat_below number_bytes
 returns c =
-    let v = c.args.v in
+    let v = c.args.v.now in
     let refusal : refused_number v.refusal ≡ c.map_or.result = search rules in
     let weak : failure_number v.tally.weak ≡ c.unwrap_or.result = search rules in
     let strong : failure_number v.tally.strong ≡ c.unwrap_or-2.result = search rules in

@@ -2,6 +2,6 @@ use Rattle.replay.specs.Interface.{replay_offer}
 use Rattle.replay.specs.InterfaceLaws.{width_exit}
 use Rattle.replay.proofs.reply.offer.Goals as goal
 
-pub returns-in_err-s : goal.returns-in_err-s
+pub returns-in_err-check_width : goal.returns-in_err-check_width
 unfolding replay_offer
-returns-in_err-s c = width_exit _ _ c.from_residual.ensures.1 _ _ _ c.in_err-s.ensures.number
+returns-in_err-check_width c = width_exit _ _ c.from_residual.ensures.1 _ _ _ c.in_err-check_width.ensures.number
