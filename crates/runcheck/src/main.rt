@@ -4,7 +4,6 @@
 mod input;
 mod print;
 
-use print::Lines;
 use std::io;
 use std::process::ExitCode;
 
@@ -20,8 +19,7 @@ fn main(rt: HostRuntime) -> ExitCode {
         Ok(length) => length,
         Err(error) => return fail(&rt, "standard input", error),
     };
-    let verdict = runs::judge(&kept[..length]);
-    match print!(rt; "{}", Lines(verdict)) {
+    match print::verdict(&rt, runs::judge(&kept[..length])) {
         Ok(()) => ExitCode::SUCCESS,
         Err(error) => fail(&rt, "standard output", error),
     }

@@ -2,7 +2,7 @@
 use cluster::State;
 use parts::refusal::Refusal;
 use runs::Verdict;
-use std::fmt;
+use std::{fmt, io};
 
 // Bytes in hexadecimal, two digits for each, in capitals.
 #[derive(Clone, Copy)]
@@ -31,19 +31,13 @@ impl fmt::Display for Image {
     }
 }
 
-// The seven lines of a verdict.
-#[derive(Clone, Copy)]
-pub(crate) struct Lines(pub(crate) Verdict);
-
-impl fmt::Display for Lines {
-    fn fmt<W: fmt::Write>(&self, f: &mut fmt::Formatter<W>) -> fmt::Result {
-        let v = &self.0;
-        writeln!(f, "accepted {}", v.tally.accepted)?;
-        writeln!(f, "refusal {}", v.refusal.map_or(0, Refusal::number))?;
-        writeln!(f, "at {}", v.at)?;
-        writeln!(f, "weak {}", v.tally.weak.unwrap_or(0))?;
-        writeln!(f, "strong {}", v.tally.strong.unwrap_or(0))?;
-        writeln!(f, "exposed {}", v.tally.exposed)?;
-        writeln!(f, "state {}", Image(v.state))
-    }
+// The seven lines of a verdict, each by a write of its own: a reader that leaves after some of them stops the rest.
+pub(crate) fn verdict(out: &impl Print, v: Verdict) -> io::Result<()> {
+    println!(out; "accepted {}", v.tally.accepted)?;
+    println!(out; "refusal {}", v.refusal.map_or(0, Refusal::number))?;
+    println!(out; "at {}", v.at)?;
+    println!(out; "weak {}", v.tally.weak.unwrap_or(0))?;
+    println!(out; "strong {}", v.tally.strong.unwrap_or(0))?;
+    println!(out; "exposed {}", v.tally.exposed)?;
+    println!(out; "state {}", Image(v.state))
 }
