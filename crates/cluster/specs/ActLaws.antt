@@ -1,5 +1,5 @@
 -- What the rules give to the code of the actions, and what an action answers by its refusal. Assumes nothing.
-use Rattle.std.specs.Prelude.{Result, Ok, Err, ℕ, zero, suc, ◌≤◌, ◌<◌, max, Bool, cond, ◌&&◌, ◌∷◌, ◌≢◌, ◌≡◌, ltb, length}
+use Rattle.std.specs.Prelude.{Result, Ok, Err, ℕ, zero, suc, ◌≤◌, ◌<◌, max, Bool, cond, ◌&&◌, ◌∷◌, ◌≢◌, ◌≡◌, ltb, length, is_some, IfErr}
 use Rattle.std.proofs.Math.Bool.{true, false, not}
 use Rattle.std.specs.Result.{MatchResult, IsErrAnd}
 use Rattle.std.proofs.Common.{ap, ◌∙◌, arith}
@@ -19,7 +19,7 @@ use Rattle.cluster.specs.Accepted.{operands_of, action_accepted, EpochLeft, requ
 use Rattle.cluster.specs.declared.Limits.{Limits}
 use Rattle.cluster.specs.declared.Action.{Action}
 use Rattle.cluster.specs.declared.RefusedAction.{RefusedAction}
-use Rattle.cluster.specs.Answer.{ActionAnswer, action_answer_of}
+use Rattle.cluster.specs.Answer.{ActionAnswer, names_member, action_answer_of}
 use Rattle.cluster.specs.Act.{act, step, action_refusal, table_refusal, action_answer, accepted_with, refused_on, answer_by, effect, refusal, kinds, kind_of, last_kind, uses, operand_bound, operand_bounds, operand_tests, operands_fit}
 use Rattle.cluster.specs.RuleLaws.{refusal_met, met_refusal, state_listed}
 use Rattle.cluster.specs.Rules.{state_refusal, state_numbers, rules}
@@ -183,11 +183,18 @@ unfolding member_named
 named_lacks_offset n s a e = rw e
 
 -- a state that breaks a rule is refused by neither number
+state_other : (s : State) (k : ℕ) → listed (accepted ∷ state_numbers) k ≡ false → state_refusal s ≢ k
+state_other s k = listed_not (accepted ∷ state_numbers) (state_refusal s) k (state_listed s)
+
 pub state_names_none : (s t : State) (a : ℕ) → 0 ≡ member_named (state_refusal s) t a
 unfolding listed
-state_names_none s t a =
-    let other : (k : ℕ) → listed (accepted ∷ state_numbers) k ≡ false → state_refusal s ≢ k = λ k. listed_not (accepted ∷ state_numbers) (state_refusal s) k (state_listed s) in
-    named_none (state_refusal s) t a (other member_not_following refl) (other member_lacks_offset refl)
+state_names_none s t a = named_none (state_refusal s) t a (state_other s member_not_following refl) (state_other s member_lacks_offset refl)
+
+-- and so by one that names no member
+pub state_unnamed : (s : State) (r : Refusal) → refusal_number r ≡ state_refusal s → false ≡ names_member r
+unfolding listed
+state_unnamed s r e =
+    rw (e, ne_eqb (state_refusal s) member_not_following (state_other s member_not_following refl), ne_eqb (state_refusal s) member_lacks_offset (state_other s member_lacks_offset refl))
 
 operand_below : (used : Bool) (bound n : ℕ) → 1 ≤ bound → n < operand_bound used bound → n < bound
 unfolding operand_bound
@@ -356,3 +363,12 @@ act_by_step s action h (Ok next) m e E cases given = rw cases ((answer_back _ _ 
 act_by_step s action h (Err r) (Ok next) e E cases given = absurd cases
 act_by_step s action h (Err r) (Err q) e E cases given =
     rw (given r q cases) ((answer_back _ _ s _ _ _ e).1 (refuses_not_zero r.refusal) ∙ act_met s action h)
+
+-- and the answer names a member where that of the tidy form does
+pub named_by_step : (r m : Result State RefusedAction) → IfErr r (λ e. is_some e.member ≡ names_member e.refusal)
+    → (s : State) (E : RefusedAction → RefusedAction → Type 0) → MatchResult r (λ next. m ≡ Ok next) (λ e. IsErrAnd m (E e))
+    → ((e q : RefusedAction) → E e q → q ≡ record { refusal = e.refusal; member = e.member; state = s })
+    → IfErr m (λ q. is_some q.member ≡ names_member q.refusal)
+named_by_step (Ok next) m named s E cases given = rw cases named
+named_by_step (Err r) (Ok next) named s E cases given = absurd cases
+named_by_step (Err r) (Err q) named s E cases given = rw (given r q cases) named

@@ -2,9 +2,11 @@
 --
 --   ActionAnswer, Outcome          a number, 0 for accepted, the member named, and the state that goes with it
 --   member_number                  the member named, 0 where none is
+--   names_member                   whether a refusal names a member
 --   action_answer_of, outcome_of   what the code answers, by its number
-use Rattle.std.specs.Prelude.{ℕ, Result, Ok, Err, Option, None, Some}
-use Rattle.parts.specs.Refusal.{accepted, refusal_number}
+use Rattle.std.specs.Prelude.{ℕ, Bool, ◌||◌, eqb, Result, Ok, Err, Option, None, Some}
+use Rattle.parts.specs.declared.refusal.Refusal.{Refusal}
+use Rattle.parts.specs.Refusal.{accepted, member_not_following, member_lacks_offset, refusal_number}
 use Rattle.cluster.specs.declared.State.{State}
 use Rattle.cluster.specs.declared.RefusedAction.{RefusedAction}
 use Rattle.cluster.specs.declared.Refused.{Refused}
@@ -24,6 +26,10 @@ pub record Outcome : Type 0 where
 abbrev pub member_number : Option ℕ → ℕ
 member_number None = 0
 member_number (Some m) = m
+
+-- a refusal names a member where its number is 48 or 49, and by no other number
+abbrev pub names_member : Refusal → Bool
+names_member r = eqb (refusal_number r) member_not_following || eqb (refusal_number r) member_lacks_offset
 
 -- accepted: 0, no member, the next state; refused: the number, the member named and the state as given
 abbrev pub action_answer_of : Result State RefusedAction → ActionAnswer

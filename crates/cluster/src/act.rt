@@ -1,11 +1,11 @@
 // An action on a state: its kind and operands are tested, then the table, and the next state is made. The table is a `match`, and no
 // list of functions: the kinds are all known, and each arm owes what its own function asks.
-ghost use Rattle.std.specs.Prelude.{◌≡◌, true};
+ghost use Rattle.std.specs.Prelude.{◌≡◌, true, is_some, IfErr};
 ghost use Rattle.parts.specs.Refusal.{accepted, refusal_number, answer_number};
 ghost use Rattle.cluster.specs.State.{tidy};
 ghost use Rattle.cluster.specs.Actions.{member_named};
 ghost use Rattle.cluster.specs.Act.{kind_of, operands_fit, table_refusal, action_refusal, effect, step, act};
-ghost use Rattle.cluster.specs.Answer.{member_number, action_answer_of};
+ghost use Rattle.cluster.specs.Answer.{member_number, names_member, action_answer_of};
 
 use crate::{Action, Kind, LAST_KIND, MemberTest, RefusedAction, State, ValidState, kinds};
 use parts::refusal::Refusal;
@@ -71,7 +71,8 @@ impl ValidState {
     #[tactic(auto, using(crate::specs::ActLaws::named_operand), unfolding(crate::specs::Actions::member_named))]
     fn member_named(self, action: Action, refusal: Refusal) -> Option<u8>
         requires { refusal_number refusal ≡ action_refusal self.state action }
-        ensures { member_number result ≡ member_named (refusal_number refusal) self.state action.a }
+        ensures answer { member_number result ≡ member_named (refusal_number refusal) self.state action.a }
+        ensures named { is_some result ≡ names_member refusal }
     {
         match refusal {
             Refusal::MemberNotFollowing => {
@@ -88,7 +89,8 @@ impl ValidState {
     #[tactic(auto, unfolding(crate::specs::Act::step, crate::specs::Act::answer_by, logic::specs::Refuse::by_refusal))]
     fn step(self, action: Action) -> Result<State, RefusedAction>
         requires { tidy self.state ≡ self.state }
-        ensures { action_answer_of result ≡ step self.state action }
+        ensures answer { action_answer_of result ≡ step self.state action }
+        ensures named { IfErr result (λ r. is_some r.member ≡ names_member r.refusal) }
     {
         match self.check_action(action) {
             Ok(()) => Ok(self.effect(action)),
@@ -104,9 +106,10 @@ impl ValidState {
 impl State {
     // What an action answers on any state: accepted, the next state, with zeros in its unused room; refused, why, the member that is
     // named, and the state as given.
-    #[tactic(auto, using(crate::specs::Equality::tidy_twice, crate::specs::ActLaws::act_refused))]
+    #[tactic(auto, using(crate::specs::Equality::tidy_twice, crate::specs::ActLaws::act_refused, crate::specs::ActLaws::state_unnamed))]
     pub fn act(self, action: Action) -> Result<State, RefusedAction>
-        ensures { action_answer_of result ≡ act self action }
+        ensures answer { action_answer_of result ≡ act self action }
+        ensures named { IfErr result (λ r. is_some r.member ≡ names_member r.refusal) }
     {
         match self.validate() {
             Ok(valid) => valid.tidy().step(action).map_err(|refused| RefusedAction {
