@@ -4,7 +4,7 @@ use Rattle.cluster.specs.declared.State.{State}
 use Rattle.images.specs.Answer.{Written}
 use Rattle.images.specs.Image.{write_image, buffer_after}
 use Rattle.images.specs.WriteLaws.{written_fits}
-use Rattle.runcheck.proofs.print.ImageDisplay.fmt.Goals as goal
+use Rattle.runcheck.proofs.print.image.Goals as goal
 
 -- the image is within the array
 fits : (s : State) (out after : List ℕ) (written : Written) → written ≡ write_image s out → after ≡ buffer_after s out → written.length ≤ length after
@@ -15,5 +15,5 @@ fits s out after written w b =
 pub slice_bounds-space-end : goal.slice_bounds-space-end
 slice_bounds-space-end g c = fits _ _ _ _ c.in-Ok.ensures.0 c.in-Ok.ensures.1
 
-pub slice_bounds-write-end : goal.slice_bounds-write-end
-slice_bounds-write-end g c = sym (length-take-le _ _ (fits _ _ _ _ c.in-Ok.ensures.0 c.in-Ok.ensures.1))
+pub slice_bounds-hex-end : goal.slice_bounds-hex-end
+slice_bounds-hex-end g c = sym (length-take-le _ _ (fits _ _ _ _ c.in-Ok.ensures.0 c.in-Ok.ensures.1))
