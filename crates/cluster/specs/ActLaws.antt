@@ -182,10 +182,11 @@ pub named_lacks_offset : (n : ℕ) (s : State) (a : ℕ) → n ≡ member_lacks_
 unfolding member_named
 named_lacks_offset n s a e = rw e
 
--- a state that breaks a rule is refused by neither number
+-- a state is refused by no number but those of the rules
 state_other : (s : State) (k : ℕ) → listed (accepted ∷ state_numbers) k ≡ false → state_refusal s ≢ k
 state_other s k = listed_not (accepted ∷ state_numbers) (state_refusal s) k (state_listed s)
 
+-- so a state that breaks a rule is refused by neither number
 pub state_names_none : (s t : State) (a : ℕ) → 0 ≡ member_named (state_refusal s) t a
 unfolding listed
 state_names_none s t a = named_none (state_refusal s) t a (state_other s member_not_following refl) (state_other s member_lacks_offset refl)

@@ -106,16 +106,18 @@ impl ValidState {
 impl State {
     // What an action answers on any state: accepted, the next state, with zeros in its unused room; refused, why, the member that is
     // named, and the state as given.
-    #[tactic(auto, using(crate::specs::Equality::tidy_twice, crate::specs::ActLaws::act_refused, crate::specs::ActLaws::state_unnamed))]
+    #[tactic(auto, using(crate::specs::Equality::tidy_twice, crate::specs::RuleLaws::refusal_met, crate::specs::Unused::rules_tidy, crate::specs::ActLaws::act_refused, crate::specs::ActLaws::state_unnamed))]
     pub fn act(self, action: Action) -> Result<State, RefusedAction>
         ensures answer { action_answer_of result ≡ act self action }
         ensures named { IfErr result (λ r. is_some r.member ≡ names_member r.refusal) }
     {
-        match self.validate() {
-            Ok(valid) => valid.tidy().step(action).map_err(|refused| RefusedAction {
-                state: self,
-                ..refused
-            }),
+        match self.check_rules() {
+            Ok(()) => ValidState::new(self.tidy())
+                .step(action)
+                .map_err(|refused| RefusedAction {
+                    state: self,
+                    ..refused
+                }),
             Err(refusal) => Err(RefusedAction {
                 refusal,
                 member: None,

@@ -206,7 +206,7 @@ impl State {
     // Whether the state meets the rules; refused by the first state rule that it breaks, S1 to S7. Where it breaks some and S1 to S6
     // hold, it is S7.
     #[tactic(auto, using(crate::specs::RuleLaws::bounded_of, crate::specs::RuleLaws::logs_bounded_of, crate::specs::RuleLaws::met_refusal, crate::specs::RuleLaws::only_seventh), unfolding(crate::specs::Rules::state_refusal, logic::specs::Refuse::refuse_unless, logic::specs::Refuse::refuse))]
-    fn check_rules(self) -> Result<(), Refusal>
+    pub(crate) fn check_rules(self) -> Result<(), Refusal>
         ensures { answer_number result ≡ state_refusal self }
     {
         let Some(sized) = SizedState::new(self) else {
