@@ -1,4 +1,4 @@
-// What comes as bytes: a flat state, and the places of a renaming.
+// What comes as bytes: how many a flat state has, and the places of a renaming.
 ghost use Rattle.std.specs.Prelude.{◌≡◌, length, IsOk};
 ghost use Rattle.parts.specs.Refusal.{answer_number};
 ghost use Rattle.cluster.specs.Answer.{outcome_of};
